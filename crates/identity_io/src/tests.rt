@@ -2,6 +2,7 @@ use crate::{
     Failed, LIMIT, MemorySink, MemorySource, ReadError, Sink, Source, StdSink, StdSource, SureSink,
     SureSource, read_all, write_all,
 };
+use std::alloc::AllocError;
 use std::io;
 use std::test::Fail;
 
@@ -74,12 +75,17 @@ fn whole_inputs_and_outputs(rt: HostRuntime) -> Result<(), Fail> {
     Ok(())
 }
 
+fn sevens(rt: &HostRuntime, count: usize) -> Result<Vec<u8>, AllocError> {
+    vec![in rt.alloc(); 7u8; count]
+}
+
 #[test]
 fn limit_of_an_input(rt: HostRuntime) -> Result<(), Fail> {
-    let bytes = vec![in rt.alloc(); 7u8; LIMIT + 1]?;
-    let mut within = SureSource::new(&bytes[..LIMIT]);
+    let longest = sevens(&rt, LIMIT)?;
+    let mut within = SureSource::new(&longest);
     assert_eq!(rt; read_all(rt.alloc(), &mut within)?.len(), LIMIT);
-    let mut above = SureSource::new(&bytes);
+    let longer = sevens(&rt, LIMIT + 1)?;
+    let mut above = SureSource::new(&longer);
     assert_eq!(rt;
         read_all(rt.alloc(), &mut above).err(),
         Some(ReadError::TooLong)
