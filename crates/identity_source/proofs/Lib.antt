@@ -1,0 +1,4 @@
+pub mod FieldLaws
+pub mod DocumentLaws
+pub mod PlainLaws
+pub mod TextLaws
