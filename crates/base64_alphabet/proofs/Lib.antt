@@ -1,0 +1,5 @@
+pub mod PassesLemmas
+pub mod GroupsLemmas
+pub mod TableLemmas
+pub mod BlocksLemmas
+pub mod EncodeLemmas

@@ -1,0 +1,6 @@
+pub mod Table
+pub mod Passes
+pub mod Group
+pub mod Encoding
+pub mod Standard
+pub mod Crypt

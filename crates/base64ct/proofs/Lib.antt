@@ -1,0 +1,9 @@
+pub mod Algebra
+pub mod Texts
+pub mod LastLemmas
+pub mod WholeLemmas
+pub mod TailLemmas
+pub mod LinesLemmas
+pub mod ItemsLemmas
+pub mod EncodingLemmas
+pub mod DecoderLemmas

@@ -1,0 +1,46 @@
+-- What a decoder has left: for each byte to come its value, or `None` where its block is bad.
+use Rattle.std.specs.Prelude.{◌≡◌, ℕ, ◌+◌, ◌-◌, ◌*◌, ◌/◌, ◌%◌, ◌<◌, ◌≤◌, ◌^◌, Bool, true, false, ◌&&◌, ◌⊎◌, if◌then◌else◌, List, [], ◌∷◌, ◌++◌, length, take, drop, map, Option, Some, None, replicate, Contains}
+use Rattle.base64_alphabet.specs.Table.{all_in}
+use Rattle.base64_alphabet.specs.Group.{End, bytes_of}
+use Rattle.base64_alphabet.specs.Encoding.{encoding_of, bytes_of_blocks}
+use Rattle.base64ct.specs.Canonical.{decoded_len, unpadded_len, IsBytes}
+use Rattle.base64ct.specs.LastBlock.{last_at, HasCanonicalEnd}
+use Rattle.base64ct.specs.Lines.{joined, has_endings, ends_in_ending}
+use Rattle.base64ct.specs.declared.errors.Error.{Error}
+use Rattle.base64ct.specs.declared.errors.Error.TheVariants.{InvalidEncoding, InvalidLength, OutOfMemory}
+
+-- the items of whole blocks: three bytes for each, or three bad items where a character isn't in the table
+unfoldable pub block_items : End → List ℕ → List ℕ → List (Option ℕ)
+block_items end table (p ∷ q ∷ r ∷ s ∷ rest) = (if all_in table (p ∷ q ∷ r ∷ s ∷ []) then map Some (bytes_of end table p q r s) else None ∷ None ∷ None ∷ []) ++ block_items end table rest
+block_items end table _ = []
+
+-- the bytes that a text's characters stand for, whatever bits follow the last byte: a short last block is
+-- filled with `A`
+abbrev pub loose_bytes : End → List ℕ → Bool → List ℕ → List ℕ
+loose_bytes end table padded t = take (decoded_len (unpadded_len padded t)) (bytes_of_blocks end table (take (unpadded_len padded t) t ++ replicate (3 - (unpadded_len padded t - 1) % 4) 65))
+
+-- the items of a text: those of its blocks before the last, and the bytes of the last
+abbrev pub items : End → List ℕ → Bool → List ℕ → List (Option ℕ)
+items end table padded t = block_items end table (take (last_at (length t)) t) ++ map Some (loose_bytes end table padded (drop (last_at (length t)) t))
+
+-- the last block of a text is the encoding of the bytes that it stands for
+pub record IsCanonicalEnd (end : End) (table : List ℕ) (padded : Bool) (t : List ℕ) : Type 0 where
+  pub bytes : IsBytes (loose_bytes end table padded (drop (last_at (length t)) t))
+  pub same : drop (last_at (length t)) t ≡ encoding_of end table padded (loose_bytes end table padded (drop (last_at (length t)) t))
+
+-- each line that is cut off has its ending, none follows the last, and the last block of the lines joined
+-- is canonical
+abbrev pub IsWrapped : End → List ℕ → Bool → ℕ → List ℕ → Type 0
+IsWrapped end table padded w text = (ends_in_ending text ≡ false) × (has_endings w text ≡ true) × HasCanonicalEnd end table padded (joined w text)
+
+-- why `new_wrapped` refuses a text
+abbrev pub IsWrapError : End → List ℕ → Bool → ℕ → List ℕ → Error → Type 0
+IsWrapError end table padded w text InvalidLength = (w < 4) ⊎ (length text ≡ 0)
+IsWrapError end table padded w text InvalidEncoding = (4 ≤ w) × (0 < length text) × (IsWrapped end table padded w text → ⊥)
+IsWrapError end table padded w text OutOfMemory = ⊥
+
+-- why all that is left is not appended to a vector of n bytes
+abbrev pub IsAppendError : List (Option ℕ) → ℕ → Error → Type 0
+IsAppendError left n InvalidLength = 2 ^ 64 ≤ length left + n
+IsAppendError left n InvalidEncoding = (length left + n < 2 ^ 64) × Contains left None
+IsAppendError left n OutOfMemory = length left + n < 2 ^ 64

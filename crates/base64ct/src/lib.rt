@@ -1,0 +1,18 @@
+//! Base64 (RFC 4648) in eight alphabets, without a table look-up or a branch on a character: whole texts
+//! by `Encoding`, and texts in lines (as in RFC 7468) by `Decoder`.
+#![tactic(auto)]
+
+mod decode_text;
+mod decoder;
+mod encode_text;
+mod encoding;
+mod errors;
+mod last_block;
+mod lines;
+
+pub use crate::decoder::Decoder;
+pub use crate::encoding::Encoding;
+pub use crate::errors::{Error, InvalidEncodingError, InvalidLengthError};
+pub use base64_alphabet::{
+    Alphabet, Base64, Base64ShaCrypt, Base64Unpadded, DecodeStep, EncodeStep, Steps, Unpad,
+};
