@@ -1,0 +1,5 @@
+-- What the contracts of this crate cite.
+pub mod Bits
+pub mod BitString
+pub mod OctetString
+pub mod Utf8
