@@ -3,3 +3,6 @@ pub mod Bits
 pub mod BitString
 pub mod OctetString
 pub mod Utf8
+pub mod Document
+pub mod OneValue
+pub mod SecretDocument

@@ -2,7 +2,9 @@
 #![tactic(auto)]
 
 mod bit_string;
+mod document;
 mod octet_string;
+mod secret_document;
 mod utf8;
 
 pub use bit_string::{BitString, BitStringRef};
@@ -12,5 +14,7 @@ pub use der_core::{
     encode_tagged, encoding_has_one_value, no_encoding_begins_another, no_value_begins_another,
     tagged_len,
 };
+pub use document::Document;
 pub use octet_string::{OctetString, OctetStringRef};
+pub use secret_document::SecretDocument;
 pub use utf8::Utf8Ref;
