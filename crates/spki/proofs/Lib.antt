@@ -1,0 +1,4 @@
+pub mod Fields
+pub mod Oids
+pub mod Owned
+pub mod Plain

@@ -1,0 +1,137 @@
+//! Public keys.
+ghost use Rattle.std.specs.Prelude.{◌≡◌, ℕ, List, MatchResult};
+ghost use Rattle.der_core.specs.Decode.{FromDerOwned};
+ghost use Rattle.der_core.specs.Order.{and_then};
+ghost use Rattle.der_core.specs.Tags.{tag_48};
+ghost use Rattle.spki.specs.PlainPublicKey.{plain_public_key, plain_public_key_ref, ReadsPublicKey};
+ghost use Rattle.spki.specs.PublicKey.{PublicKeyContent, public_key_content};
+ghost use Rattle.spki.specs.PublicKeyLaws.{public_key_reads_content, public_key_content_reads};
+
+use crate::length::both_lengths;
+use crate::{AlgorithmIdentifier, Error, Result};
+use der_small::{
+    Any, AnyRef, BitString, BitStringRef, Choice, Cursor, Decode, DecodeValue, DerOrd, Encode,
+    EncodeValue, FixedTag, Lawful, LawfulValue, Length, Tag, ValueOrd, Writer,
+};
+use std::alloc::Global;
+use std::cmp::Ordering;
+
+/// A public key and what it is a key of (RFC 5280, section 4.1.2.7).
+#[derive(Clone, Debug, Drop, PartialEq, Eq, Hash)]
+pub struct SubjectPublicKeyInfo<Params, Key> {
+    /// What the key is a key of.
+    pub algorithm: AlgorithmIdentifier<Params>,
+
+    /// The key, in the form of its algorithm.
+    pub subject_public_key: Key,
+}
+
+/// A public key in borrowed bytes.
+pub type SubjectPublicKeyInfoRef<'a> = SubjectPublicKeyInfo<AnyRef<'a>, BitStringRef<'a>>;
+
+/// A public key with bytes of its own.
+pub type SubjectPublicKeyInfoOwned = SubjectPublicKeyInfo<Any, BitString>;
+
+impl<Params, Key> FixedTag for SubjectPublicKeyInfo<Params, Key> {
+    ghost tag = { 48 };
+
+    ghost tag_is_valid = { tag_48 };
+
+    const TAG: u8 = Tag::SEQUENCE;
+
+    fn tag_byte() -> u8
+        ensures { result ≡ 48 }
+    {
+        Tag::SEQUENCE
+    }
+}
+
+impl<'a, Params: Choice<'a>, Key: Decode<'a>> DecodeValue<'a> for SubjectPublicKeyInfo<Params, Key> {
+    ghost HasContent = { PublicKeyContent Params.Reads Key.Reads };
+
+    fn decode_value(cursor: &mut Cursor<'a>) -> der_small::Result<Self> {
+        let mut at = Cursor::new(cursor.rest());
+        let Ok(algorithm) = AlgorithmIdentifier::<Params>::decode(&mut at) else {
+            return Err(der_small::Error::Malformed);
+        };
+        let Ok(subject_public_key) = Key::decode(&mut at) else {
+            return Err(der_small::Error::Malformed);
+        };
+        if !at.is_finished() {
+            return Err(der_small::Error::Malformed);
+        }
+        Ok(SubjectPublicKeyInfo {
+            algorithm,
+            subject_public_key,
+        })
+    }
+}
+
+impl<Params: Encode, Key: Encode> EncodeValue for SubjectPublicKeyInfo<Params, Key> {
+    ghost content = { public_key_content Params.encoding Key.encoding };
+
+    fn value_len(&self) -> der_small::Result<Length> {
+        both_lengths(
+            self.algorithm.encoded_len()?,
+            self.subject_public_key.encoded_len()?,
+        )
+    }
+
+    fn encode_value<W: Writer>(&self, writer: &mut W) -> der_small::Result<()> {
+        let _ = self.value_len()?;
+        self.algorithm.encode(writer)?;
+        self.subject_public_key.encode(writer)
+    }
+}
+
+impl<'a, Params: Choice<'a>, Key: Lawful<'a>> LawfulValue<'a> for SubjectPublicKeyInfo<Params, Key> {
+    ghost reads_content = { λ b v has. public_key_reads_content Params.Reads Key.Reads Params.encoding Key.encoding Params.reads_encoding Key.reads_encoding b v has };
+
+    ghost content_reads = { λ v fits. public_key_content_reads Params.Reads Key.Reads Params.encoding Key.encoding Params.encoding_reads Key.encoding_reads v fits };
+}
+
+impl<Params: DerOrd + Encode, Key: ValueOrd> ValueOrd for SubjectPublicKeyInfo<Params, Key> {
+    ghost value_order = { λ a b. and_then (⟦<AlgorithmIdentifier<Params> as DerOrd>⟧.der_order a.algorithm b.algorithm) (Key.value_order a.subject_public_key b.subject_public_key) };
+
+    fn value_cmp(&self, other: &Self) -> der_small::Result<Ordering> {
+        match self.algorithm.der_cmp(&other.algorithm)? {
+            Ordering::Equal => self.subject_public_key.value_cmp(&other.subject_public_key),
+            unequal => Ok(unequal),
+        }
+    }
+}
+
+impl<'a> SubjectPublicKeyInfo<AnyRef<'a>, BitStringRef<'a>> {
+    pub fn ref_to_owned(&self, alloc: Global) -> Result<SubjectPublicKeyInfoOwned>
+        ensures { MatchResult result (λ v. plain_public_key v ≡ plain_public_key_ref self.now) (λ e. e ≡ Error.OutOfMemory) }
+    {
+        Ok(SubjectPublicKeyInfo {
+            algorithm: self.algorithm.ref_to_owned(alloc)?,
+            subject_public_key: self.subject_public_key.ref_to_owned(alloc)?,
+        })
+    }
+}
+
+impl SubjectPublicKeyInfo<Any, BitString> {
+    /// Reads one public key and copies it.
+    pub fn from_der(alloc: Global, bytes: &[u8]) -> der_small::Result<Self>
+        ensures { FromDerOwned plain_public_key ReadsPublicKey bytes.now result }
+    {
+        match SubjectPublicKeyInfoRef::from_der(bytes) {
+            Ok(value) => match value.ref_to_owned(alloc) {
+                Ok(value) => Ok(value),
+                Err(_) => Err(der_small::Error::OutOfMemory),
+            },
+            Err(error) => Err(error),
+        }
+    }
+
+    pub fn owned_to_ref(&self) -> SubjectPublicKeyInfoRef<'_>
+        ensures { plain_public_key_ref result ≡ plain_public_key self.now }
+    {
+        SubjectPublicKeyInfo {
+            algorithm: self.algorithm.owned_to_ref(),
+            subject_public_key: self.subject_public_key.owned_to_ref(),
+        }
+    }
+}
