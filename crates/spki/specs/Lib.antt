@@ -3,6 +3,7 @@ pub mod Algorithm
 pub mod AlgorithmLaws
 pub mod AlgorithmOids
 pub mod Error
+pub mod Fingerprint
 pub mod Parts
 pub mod PlainAlgorithm
 pub mod PlainPublicKey

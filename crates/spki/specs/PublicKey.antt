@@ -17,3 +17,7 @@ PublicKeyContent ReadsP ReadsK bytes v = Then (ReadsTagged 48 (AlgorithmContent 
 -- What is written of the fields.
 abbrev pub public_key_content : {P K : Type 0} → (P → List ℕ) → (K → List ℕ) → SubjectPublicKeyInfo P K → List ℕ
 public_key_content parameters key v = encode 48 (algorithm_content parameters v.algorithm) ++ key v.subject_public_key
+
+-- What is written of the whole.
+abbrev pub public_key_encoding : {P K : Type 0} → (P → List ℕ) → (K → List ℕ) → SubjectPublicKeyInfo P K → List ℕ
+public_key_encoding parameters key v = encode 48 (public_key_content parameters key v)

@@ -2,6 +2,7 @@
 #![tactic(auto)]
 
 mod algorithm;
+mod digest;
 mod error;
 mod length;
 mod spki;
@@ -10,5 +11,6 @@ pub use algorithm::{
     AlgorithmIdentifier, AlgorithmIdentifierOwned, AlgorithmIdentifierRef,
     AlgorithmIdentifierWithOid, AsAlgorithmIdentifierRef,
 };
+pub use digest::{DigestWriter, FingerprintBytes};
 pub use error::{Error, Result};
 pub use spki::{SubjectPublicKeyInfo, SubjectPublicKeyInfoOwned, SubjectPublicKeyInfoRef};

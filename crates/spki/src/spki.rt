@@ -8,11 +8,13 @@ ghost use Rattle.spki.specs.PublicKey.{PublicKeyContent, public_key_content};
 ghost use Rattle.spki.specs.PublicKeyLaws.{public_key_reads_content, public_key_content_reads};
 
 use crate::length::both_lengths;
-use crate::{AlgorithmIdentifier, Error, Result};
+use crate::{AlgorithmIdentifier, DigestWriter, Error, FingerprintBytes, Result};
+use base64ct::{Base64, Encoding};
 use der_small::{
-    Any, AnyRef, BitString, BitStringRef, Choice, Cursor, Decode, DecodeValue, DerOrd, Encode,
-    EncodeValue, FixedTag, Lawful, LawfulValue, Length, Tag, ValueOrd, Writer,
+    Any, AnyRef, BitString, BitStringRef, Choice, Cursor, Decode, DecodeValue, DerOrd,
+    Document, Encode, EncodeValue, FixedTag, Lawful, LawfulValue, Length, Tag, ValueOrd, Writer,
 };
+use sha2::{Digest, Sha256};
 use std::alloc::Global;
 use std::cmp::Ordering;
 
@@ -98,6 +100,49 @@ impl<Params: DerOrd + Encode, Key: ValueOrd> ValueOrd for SubjectPublicKeyInfo<P
             Ordering::Equal => self.subject_public_key.value_cmp(&other.subject_public_key),
             unequal => Ok(unequal),
         }
+    }
+}
+
+impl<Params: Encode, Key: Encode> SubjectPublicKeyInfo<Params, Key> {
+    ghost use Rattle.std.specs.Prelude.{◌<◌, ◌^◌, length, IfOk, IfErr, OnOk, string_bytes};
+    ghost use Rattle.der_small.specs.Document.{document_bytes};
+    ghost use Rattle.sha2.specs.Sha256.{sha256};
+    ghost use Rattle.spki.specs.Fingerprint.{base64_text, IsOverlength, IsOverlengthOrMemory};
+    ghost use Rattle.spki.specs.PublicKey.{public_key_encoding};
+
+    /// The fingerprint as people compare it.
+    pub fn fingerprint_base64(&self, alloc: Global) -> Result<String>
+        ensures value { IfOk result (λ text. string_bytes text ≡ base64_text (sha256 (public_key_encoding Params.encoding Key.encoding self.now))) }
+        ensures fits { OnOk result (length (public_key_encoding Params.encoding Key.encoding self.now) < 2 ^ 32) }
+        ensures overlength { IfErr result (IsOverlengthOrMemory (public_key_encoding Params.encoding Key.encoding self.now)) }
+    {
+        let digest = self.fingerprint_bytes()?;
+        match Base64::encode_string(alloc, &digest) {
+            Ok(text) => Ok(text),
+            // 32 bytes are never too many.
+            Err(_) => Err(Error::OutOfMemory),
+        }
+    }
+
+    /// The fingerprint by which the key is known (RFC 7469, section 2.4): the SHA-256 digest of its document, which is not made for this.
+    pub fn fingerprint_bytes(&self) -> Result<FingerprintBytes>
+        ensures value { IfOk result (λ digest. digest ≡ sha256 (public_key_encoding Params.encoding Key.encoding self.now)) }
+        ensures fits { OnOk result (length (public_key_encoding Params.encoding Key.encoding self.now) < 2 ^ 32) }
+        ensures overlength { IfErr result (IsOverlength (public_key_encoding Params.encoding Key.encoding self.now)) }
+    {
+        let mut hasher = Sha256::new();
+        let mut writer = DigestWriter(&mut hasher);
+        self.encode(&mut writer)?;
+        Ok(hasher.finalize())
+    }
+
+    /// The document in which the key is passed on.
+    pub fn to_document(&self, alloc: Global) -> Result<Document>
+        ensures value { IfOk result (λ document. document_bytes document ≡ public_key_encoding Params.encoding Key.encoding self.now) }
+        ensures fits { OnOk result (length (public_key_encoding Params.encoding Key.encoding self.now) < 2 ^ 32) }
+        ensures overlength { IfErr result (IsOverlengthOrMemory (public_key_encoding Params.encoding Key.encoding self.now)) }
+    {
+        Ok(Document::encode_msg(alloc, self)?)
     }
 }
 
