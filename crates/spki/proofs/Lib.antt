@@ -1,4 +1,3 @@
 pub mod Fields
 pub mod Oids
 pub mod Owned
-pub mod Plain

@@ -2,11 +2,14 @@
 pub mod Algorithm
 pub mod AlgorithmLaws
 pub mod AlgorithmOids
+pub mod Answers
 pub mod Error
 pub mod Fingerprint
+pub mod Identifier
 pub mod Parts
 pub mod PlainAlgorithm
 pub mod PlainPublicKey
 pub mod PublicKey
 pub mod PublicKeyLaws
+pub mod ReadLaws
 pub mod Written

@@ -4,8 +4,10 @@
 mod algorithm;
 mod digest;
 mod error;
+mod laws;
 mod length;
 mod spki;
+mod traits;
 
 pub use algorithm::{
     AlgorithmIdentifier, AlgorithmIdentifierOwned, AlgorithmIdentifierRef,
@@ -13,4 +15,15 @@ pub use algorithm::{
 };
 pub use digest::{DigestWriter, FingerprintBytes};
 pub use error::{Error, Result};
+pub use laws::{
+    equal_keys_have_one_fingerprint, parameters_oid_is_second_of_oids, read_keys_are_written_again,
+};
 pub use spki::{SubjectPublicKeyInfo, SubjectPublicKeyInfoOwned, SubjectPublicKeyInfoRef};
+pub use traits::{
+    AssociatedAlgorithmIdentifier, DecodePublicKey, DynAssociatedAlgorithmIdentifier,
+    DynSignatureAlgorithmIdentifier, EncodePublicKey, SignatureAlgorithmIdentifier,
+    SignatureBitStringEncoding,
+};
+
+#[cfg(test)]
+mod tests;

@@ -8,11 +8,14 @@ ghost use Rattle.spki.specs.PublicKey.{PublicKeyContent, public_key_content};
 ghost use Rattle.spki.specs.PublicKeyLaws.{public_key_reads_content, public_key_content_reads};
 
 use crate::length::both_lengths;
-use crate::{AlgorithmIdentifier, DigestWriter, Error, FingerprintBytes, Result};
+use crate::{
+    AlgorithmIdentifier, DecodePublicKey, DigestWriter, EncodePublicKey, Error, FingerprintBytes,
+    Result,
+};
 use base64ct::{Base64, Encoding};
 use der_small::{
-    Any, AnyRef, BitString, BitStringRef, Choice, Cursor, Decode, DecodeValue, DerOrd,
-    Document, Encode, EncodeValue, FixedTag, Lawful, LawfulValue, Length, Tag, ValueOrd, Writer,
+    Any, AnyRef, BitString, BitStringRef, Choice, Cursor, Decode, DecodeValue, DerOrd, Document,
+    Encode, EncodeValue, FixedTag, Lawful, LawfulValue, Length, Tag, ValueOrd, Writer,
 };
 use sha2::{Digest, Sha256};
 use std::alloc::Global;
@@ -48,7 +51,8 @@ impl<Params, Key> FixedTag for SubjectPublicKeyInfo<Params, Key> {
     }
 }
 
-impl<'a, Params: Choice<'a>, Key: Decode<'a>> DecodeValue<'a> for SubjectPublicKeyInfo<Params, Key> {
+impl<'a, Params: Choice<'a>, Key: Decode<'a>> DecodeValue<'a>
+    for SubjectPublicKeyInfo<Params, Key> {
     ghost HasContent = { PublicKeyContent Params.Reads Key.Reads };
 
     fn decode_value(cursor: &mut Cursor<'a>) -> der_small::Result<Self> {
@@ -86,7 +90,8 @@ impl<Params: Encode, Key: Encode> EncodeValue for SubjectPublicKeyInfo<Params, K
     }
 }
 
-impl<'a, Params: Choice<'a>, Key: Lawful<'a>> LawfulValue<'a> for SubjectPublicKeyInfo<Params, Key> {
+impl<'a, Params: Choice<'a>, Key: Lawful<'a>> LawfulValue<'a>
+    for SubjectPublicKeyInfo<Params, Key> {
     ghost reads_content = { λ b v has. public_key_reads_content Params.Reads Key.Reads Params.encoding Key.encoding Params.reads_encoding Key.reads_encoding b v has };
 
     ghost content_reads = { λ v fits. public_key_content_reads Params.Reads Key.Reads Params.encoding Key.encoding Params.encoding_reads Key.encoding_reads v fits };
@@ -158,6 +163,16 @@ impl<'a> SubjectPublicKeyInfo<AnyRef<'a>, BitStringRef<'a>> {
 }
 
 impl SubjectPublicKeyInfo<Any, BitString> {
+    ghost use Rattle.spki.specs.Answers.{FromSource, ReadAnswer};
+
+    /// The public key that another type writes.
+    pub fn from_key<T: EncodePublicKey>(alloc: Global, source: &T) -> Result<Self>
+        ensures { FromSource plain_public_key (ReadAnswer ReadsPublicKey) (T.document source.now) result }
+    {
+        let document = source.to_public_key_der(alloc)?;
+        Self::from_public_key_der(alloc, document.as_bytes())
+    }
+
     /// Reads one public key and copies it.
     pub fn from_der(alloc: Global, bytes: &[u8]) -> der_small::Result<Self>
         ensures { FromDerOwned plain_public_key ReadsPublicKey bytes.now result }
@@ -179,4 +194,52 @@ impl SubjectPublicKeyInfo<Any, BitString> {
             subject_public_key: self.subject_public_key.owned_to_ref(),
         }
     }
+}
+
+impl DecodePublicKey for SubjectPublicKeyInfo<Any, BitString> {
+    ghost use Rattle.spki.specs.Answers.{ReadAnswer};
+    ghost use Rattle.spki.specs.PlainPublicKey.{PlainPublicKey};
+    ghost use Rattle.spki.specs.ReadLaws.{public_key_one_answer, read_no_file};
+
+    ghost Plain = { PlainPublicKey };
+
+    ghost plain = { plain_public_key };
+
+    ghost HasAnswer = { ReadAnswer ReadsPublicKey };
+
+    fn from_public_key_der(alloc: Global, bytes: &[u8]) -> Result<Self> {
+        Ok(Self::from_der(alloc, bytes)?)
+    }
+
+    ghost one_answer = { public_key_one_answer };
+
+    ghost no_file = { read_no_file ReadsPublicKey };
+}
+
+impl EncodePublicKey for SubjectPublicKeyInfo<Any, BitString> {
+    ghost use Rattle.spki.specs.Answers.{written_answer};
+    ghost use Rattle.spki.specs.PlainPublicKey.{public_key_der};
+    ghost use Rattle.spki.specs.ReadLaws.{written_no_file};
+
+    ghost document = { λ v. written_answer (public_key_der (plain_public_key v)) };
+
+    fn to_public_key_der(&self, alloc: Global) -> Result<Document> {
+        self.to_document(alloc)
+    }
+
+    ghost no_file = { λ v. written_no_file (public_key_der (plain_public_key v)) };
+}
+
+impl<'a> EncodePublicKey for SubjectPublicKeyInfo<AnyRef<'a>, BitStringRef<'a>> {
+    ghost use Rattle.spki.specs.Answers.{written_answer};
+    ghost use Rattle.spki.specs.PlainPublicKey.{public_key_der};
+    ghost use Rattle.spki.specs.ReadLaws.{written_no_file};
+
+    ghost document = { λ v. written_answer (public_key_der (plain_public_key_ref v)) };
+
+    fn to_public_key_der(&self, alloc: Global) -> Result<Document> {
+        self.to_document(alloc)
+    }
+
+    ghost no_file = { λ v. written_no_file (public_key_der (plain_public_key_ref v)) };
 }

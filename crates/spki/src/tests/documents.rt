@@ -1,0 +1,153 @@
+use crate::{
+    DecodePublicKey, EncodePublicKey, Error, SubjectPublicKeyInfoOwned, SubjectPublicKeyInfoRef,
+};
+use base64ct::{Base64, Encoding};
+use der_small::{Decode, DerOrd, Encode, Tag, ValueOrd};
+use std::cmp::Ordering;
+use std::test::Fail;
+
+// An Ed25519 key (RFC 8410, section 4): the document of the specification's example, whose fingerprint is
+// `openssl dgst -sha256 -binary | base64` of it.
+const ED25519: &str = "MCowBQYDK2VwAyEATSkWfz8ZEqb2rfopOgUaFcBexnuPFycbHFVQ3OhTvQ0=";
+
+const FINGERPRINT: &str = "Vd1MdLDkhTTi9OFzzs61DfjyenrCqomRzHrpFOAwvO0=";
+
+#[test]
+fn a_key_in_all_its_forms(rt: HostRuntime) -> Result<(), Fail> {
+    let bytes = Base64::decode_vec(rt.alloc(), ED25519)?;
+    let key = SubjectPublicKeyInfoRef::from_der(&bytes)?;
+    assert_eq!(rt; key.to_der(rt.alloc())?, bytes);
+    assert_eq!(rt; key.to_document(rt.alloc())?.as_bytes(), bytes.as_slice());
+    assert_eq!(rt;
+        key.to_public_key_der(rt.alloc())?.as_bytes(),
+        bytes.as_slice()
+    );
+    assert_eq!(rt; key.fingerprint_base64(rt.alloc())?.as_str(), FINGERPRINT);
+    assert_eq!(rt; key.subject_public_key.raw_bytes().len(), 32);
+    let owned = key.ref_to_owned(rt.alloc())?;
+    assert_eq!(rt;
+        owned,
+        SubjectPublicKeyInfoOwned::from_der(rt.alloc(), &bytes)?
+    );
+    assert_eq!(rt;
+        owned,
+        SubjectPublicKeyInfoOwned::from_public_key_der(rt.alloc(), &bytes)?
+    );
+    assert_eq!(rt;
+        owned,
+        SubjectPublicKeyInfoOwned::from_key(rt.alloc(), &key)?
+    );
+    assert_eq!(rt;
+        owned,
+        SubjectPublicKeyInfoOwned::from_key(rt.alloc(), &owned)?
+    );
+    assert_eq!(rt; owned.owned_to_ref(), key);
+    assert_eq!(rt; owned.fingerprint_bytes()?, key.fingerprint_bytes()?);
+    assert_eq!(rt; key.value_cmp(&key)?, Ordering::Equal);
+    assert_eq!(rt; key.der_cmp(&owned.owned_to_ref())?, Ordering::Equal);
+    Ok(())
+}
+
+// Keys by `openssl genpkey -algorithm ed25519`, `-algorithm EC -pkeyopt ec_paramgen_curve:P-256` and
+// `-algorithm RSA -pkeyopt rsa_keygen_bits:2048`, each by `openssl pkey -pubout -outform DER | base64`, and
+// their digests by `openssl dgst -sha256 -binary | base64`.
+#[test]
+fn fingerprints_by_openssl(rt: HostRuntime) -> Result<(), Fail> {
+    let rows = [
+        (
+            "MCowBQYDK2VwAyEAQI0rO0ut7KTkLDQKE+l9XalTNJ47t+7Kmh1Yf3NopXQ=",
+            "PT+7WKtGhKertdgETIxXiiYgZg0yz8wwJGtvyhd4YIU=",
+        ),
+        (
+            "MFkwEwYHKoZIzj0CAQYIKoZIzj0DAQcDQgAEnQewH5hVesrHuk1WeeWi0PnZfs8HPwG83FxDdOIgQEjDN84qJAJ6RBXCk65X+gc45kM6wTNuNZetySBKCVy/3g==",
+            "aQGz2X+nW1aTUSzBMXhwPqM4FLIOiwat2+v5vj7QqB0=",
+        ),
+        (
+            "MIIBIjANBgkqhkiG9w0BAQEFAAOCAQ8AMIIBCgKCAQEAsF3CeUfnbZzaU3ZtqcfdgqGAIzH4vc9Ajh+85D4NLwCYAENFIGR8NozzWDqZYl3ABo8k73U5YAS0x4sLqAjwHvBOWJ6lmskSOKt8/zGKtBIdVpnfy+NSK0dDEfZaoQ1lhrMx2KGEtTQXzm6IMZLD1o9/mNAelTukXDfuCN1C5+ZWS/R2dh8lZZC6XzXwwE3ik9IJGz7yhSkpPqppwN6fO5c+GJVbml3d3Uqp2MJu4Lv2MH82KdgEEkzCBg5Z721pZv8/cLMeUCvp4XUG940AhwMFgh2prREc8Hjxa2Z8hejzclTQG0gcf73ntuaJ4PJjmSeungtgbBphisSKIMohKQIDAQAB",
+            "BwOpJMTIR+sqkGfd1bU+db8Q01VfI5h33qqACPe6h1E=",
+        ),
+    ];
+    for (text, digest) in rows {
+        let bytes = Base64::decode_vec(rt.alloc(), text)?;
+        let key = SubjectPublicKeyInfoRef::from_der(&bytes)?;
+        assert_eq!(rt; key.fingerprint_base64(rt.alloc())?.as_str(), digest);
+        assert_eq!(rt; key.to_der(rt.alloc())?, bytes);
+    }
+    Ok(())
+}
+
+// An RSA key of 2,048 bits (RFC 8017, appendix A.1.1) whose content is 270 bytes `11`.
+#[test]
+fn an_rsa_key_and_refusals(rt: HostRuntime) -> Result<(), Fail> {
+    let front: [u8; 24] = [
+        0x30, 0x82, 0x01, 0x22, 0x30, 0x0d, 0x06, 0x09, 0x2a, 0x86, 0x48, 0x86, 0xf7, 0x0d, 0x01,
+        0x01, 0x01, 0x05, 0x00, 0x03, 0x82, 0x01, 0x0f, 0x00,
+    ];
+    let mut bytes = vec![in rt.alloc(); 0x11u8; 294]?;
+    bytes[..24].copy_from_slice(&front);
+    let key = SubjectPublicKeyInfoRef::from_der(&bytes)?;
+    assert_eq!(rt;
+        format!(in rt.alloc(); "{}", key.algorithm.oid)?.as_str(),
+        "1.2.840.113549.1.1.1"
+    );
+    assert!(rt; key.algorithm.parameters_any()?.is_null());
+    assert_eq!(rt; key.subject_public_key.raw_bytes().len(), 270);
+
+    let malformed = der_small::Error::Malformed;
+    bytes[1] = 0x81;
+    assert_eq!(rt; SubjectPublicKeyInfoRef::from_der(&bytes), Err(malformed));
+    let refused = SubjectPublicKeyInfoOwned::from_public_key_der(rt.alloc(), &bytes);
+    assert_eq!(rt; refused, Err(Error::Asn1(malformed)));
+    bytes[1] = 0x82;
+    bytes.push(0)?;
+    let trailing = der_small::Error::TrailingData {
+        decoded: 294,
+        remaining: 1,
+    };
+    assert_eq!(rt;
+        SubjectPublicKeyInfoOwned::from_der(rt.alloc(), &bytes),
+        Err(trailing)
+    );
+    Ok(())
+}
+
+#[test]
+fn texts_and_conversions_of_errors(rt: HostRuntime) -> Result<(), Fail> {
+    let oid = der_small::ObjectIdentifier::new("1.2.3")?;
+    let rows = [
+        (
+            Error::AlgorithmParametersMissing,
+            "AlgorithmIdentifier parameters missing",
+        ),
+        (
+            Error::Asn1(der_small::Error::Malformed),
+            "ASN.1 error: malformed",
+        ),
+        (Error::KeyMalformed, "SPKI cryptographic key data malformed"),
+        (
+            Error::OidUnknown { oid },
+            "unknown/unsupported algorithm OID: 1.2.3",
+        ),
+        (Error::OutOfMemory, "out of memory"),
+    ];
+    for (error, text) in rows {
+        assert_eq!(rt; format!(in rt.alloc(); "{error}")?.as_str(), text);
+    }
+    assert_eq!(rt;
+        Error::from(der_small::Error::OidUnknown { oid }),
+        Error::OidUnknown { oid }
+    );
+    assert_eq!(rt;
+        Error::from(der_small::Error::OutOfMemory),
+        Error::OutOfMemory
+    );
+    assert_eq!(rt;
+        Error::from(der_small::Error::OidMalformed),
+        Error::Asn1(der_small::Error::OidMalformed)
+    );
+    assert_eq!(rt;
+        <SubjectPublicKeyInfoRef as der_small::FixedTag>::TAG,
+        Tag::SEQUENCE
+    );
+    Ok(())
+}

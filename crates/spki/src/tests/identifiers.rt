@@ -1,0 +1,159 @@
+use crate::{
+    AlgorithmIdentifier, AlgorithmIdentifierOwned, AlgorithmIdentifierRef,
+    AlgorithmIdentifierWithOid, AsAlgorithmIdentifierRef, AssociatedAlgorithmIdentifier,
+    DynAssociatedAlgorithmIdentifier, DynSignatureAlgorithmIdentifier, Error,
+    SignatureAlgorithmIdentifier, SignatureBitStringEncoding,
+};
+use der_small::{
+    AnyRef, BitString, BitStringRef, Decode, DerOrd, Encode, ObjectIdentifier, Tag, ValueOrd,
+};
+use std::alloc::Global;
+use std::cmp::Ordering;
+use std::test::Fail;
+
+// id-ecPublicKey with secp256r1 (RFC 5480, section 2.1.1), by `openssl pkey -pubout`.
+const P256: [u8; 21] = [
+    0x30, 0x13, 0x06, 0x07, 0x2a, 0x86, 0x48, 0xce, 0x3d, 0x02, 0x01, 0x06, 0x08, 0x2a, 0x86, 0x48,
+    0xce, 0x3d, 0x03, 0x01, 0x07,
+];
+
+// id-Ed25519 (RFC 8410, section 3), and the same with NULL parameters.
+const ED25519: [u8; 7] = [0x30, 0x05, 0x06, 0x03, 0x2b, 0x65, 0x70];
+
+const WITH_NULL: [u8; 9] = [0x30, 0x07, 0x06, 0x03, 0x2b, 0x65, 0x70, 0x05, 0x00];
+
+#[test]
+fn parameters_of_identifiers(rt: HostRuntime) -> Result<(), Fail> {
+    let ec = ObjectIdentifier::new("1.2.840.10045.2.1")?;
+    let curve = ObjectIdentifier::new("1.2.840.10045.3.1.7")?;
+    let ed25519 = ObjectIdentifier::new("1.3.101.112")?;
+    let id = AlgorithmIdentifierRef::from_der(&P256)?;
+    assert_eq!(rt; id.oids()?, (ec, Some(curve)));
+    assert_eq!(rt; id.parameters_oid()?, curve);
+    assert_eq!(rt; id.assert_algorithm_oid(ec)?, ec);
+    assert_eq!(rt; id.assert_parameters_oid(curve)?, curve);
+    assert_eq!(rt; id.assert_oids(ec, curve), Ok(()));
+    assert_eq!(rt;
+        id.assert_oids(ed25519, ed25519),
+        Err(Error::OidUnknown { oid: ec })
+    );
+    assert_eq!(rt;
+        id.assert_oids(ec, ed25519),
+        Err(Error::OidUnknown { oid: curve })
+    );
+    let known = AlgorithmIdentifierWithOid::from_der(&P256)?;
+    assert_eq!(rt; known.parameters, Some(curve));
+    assert_eq!(rt; known.to_der(rt.alloc())?.as_slice(), P256.as_slice());
+
+    let none = AlgorithmIdentifierRef::from_der(&ED25519)?;
+    assert_eq!(rt; none.oids()?, (ed25519, None));
+    assert_eq!(rt;
+        none.parameters_any(),
+        Err(Error::AlgorithmParametersMissing)
+    );
+    assert_eq!(rt;
+        none.parameters_oid(),
+        Err(Error::AlgorithmParametersMissing)
+    );
+
+    let null = AlgorithmIdentifierRef::from_der(&WITH_NULL)?;
+    let (Some(expected), Some(actual)) = (Tag::new(Tag::OID), Tag::new(Tag::NULL)) else {
+        return Err(Fail::new("no tags"));
+    };
+    let unexpected = der_small::Error::TagUnexpected { expected, actual };
+    assert_eq!(rt; null.oids()?, (ed25519, None));
+    assert!(rt; null.parameters_any()?.is_null());
+    assert_eq!(rt; null.parameters_oid(), Err(Error::Asn1(unexpected)));
+    assert!(rt; null != none);
+    Ok(())
+}
+
+#[test]
+fn forms_and_orders_of_identifiers(rt: HostRuntime) -> Result<(), Fail> {
+    let id = AlgorithmIdentifierRef::from_der(&P256)?;
+    let owned = id.ref_to_owned(rt.alloc())?;
+    assert_eq!(rt;
+        owned,
+        AlgorithmIdentifierOwned::from_der(rt.alloc(), &P256)?
+    );
+    assert_eq!(rt; owned.owned_to_ref(), id);
+    assert_eq!(rt; owned.as_algo_ref(), id.as_algo_ref());
+    assert_eq!(rt; owned.to_der(rt.alloc())?.as_slice(), P256.as_slice());
+    // An absent parameter stands before a present one, and a shorter content before a longer one.
+    let none = AlgorithmIdentifierRef::from_der(&ED25519)?;
+    let null = AlgorithmIdentifierRef::from_der(&WITH_NULL)?;
+    assert_eq!(rt; none.value_cmp(&null)?, Ordering::Less);
+    assert_eq!(rt; null.der_cmp(&null)?, Ordering::Equal);
+    assert_eq!(rt; id.value_cmp(&none)?, Ordering::Greater);
+    assert_eq!(rt; id.cmp(&none), Ordering::Less);
+    Ok(())
+}
+
+ghost use Rattle.std.specs.Prelude.{◌≡◌, [], ◌∷◌, Some, Ok, IsSome, IfSome};
+ghost use Rattle.der_core.specs.Der.{encode};
+ghost use Rattle.der_core.specs.Oid.{IsOidContent};
+ghost use Rattle.der_core.specs.ObjectIdentifier.{oid_content};
+
+/// The identifier of a content that is known to be one.
+fn known(content: &[u8]) -> ObjectIdentifier
+    requires { IsOidContent content.now }
+    ensures { oid_content result ≡ content.now }
+{
+    ObjectIdentifier::from_bytes(content).unwrap()
+}
+
+/// The identifier of keys on P-256.
+fn p256() -> AlgorithmIdentifierWithOid
+    ensures oid { oid_content result.oid ≡ 42 ∷ 134 ∷ 72 ∷ 206 ∷ 61 ∷ 2 ∷ 1 ∷ [] }
+    ensures curve { IfSome result.parameters (λ o. oid_content o ≡ 42 ∷ 134 ∷ 72 ∷ 206 ∷ 61 ∷ 3 ∷ 1 ∷ 7 ∷ []) }
+    ensures some { IsSome result.parameters }
+{
+    AlgorithmIdentifier {
+        oid: known(&[42, 134, 72, 206, 61, 2, 1]),
+        parameters: Some(known(&[42, 134, 72, 206, 61, 3, 1, 7])),
+    }
+}
+
+/// A key, or a signature, on P-256.
+struct OnCurve;
+
+impl AssociatedAlgorithmIdentifier for OnCurve {
+    type Params = ObjectIdentifier;
+
+    ghost algorithm = { record { oid = 42 ∷ 134 ∷ 72 ∷ 206 ∷ 61 ∷ 2 ∷ 1 ∷ []; parameters = Some (encode 6 (42 ∷ 134 ∷ 72 ∷ 206 ∷ 61 ∷ 3 ∷ 1 ∷ 7 ∷ [])) } };
+
+    fn associated_algorithm_identifier() -> AlgorithmIdentifier<ObjectIdentifier> {
+        p256()
+    }
+}
+
+impl SignatureAlgorithmIdentifier for OnCurve {
+    type Params = ObjectIdentifier;
+
+    ghost algorithm = { record { oid = 42 ∷ 134 ∷ 72 ∷ 206 ∷ 61 ∷ 2 ∷ 1 ∷ []; parameters = Some (encode 6 (42 ∷ 134 ∷ 72 ∷ 206 ∷ 61 ∷ 3 ∷ 1 ∷ 7 ∷ [])) } };
+
+    fn associated_signature_algorithm_identifier() -> AlgorithmIdentifier<ObjectIdentifier> {
+        p256()
+    }
+}
+
+impl SignatureBitStringEncoding for OnCurve {
+    ghost bits = { λ _. Ok (record { unused_bits = 0; octets = 170 ∷ [] }) };
+
+    fn to_bitstring(&self, alloc: Global) -> der_small::Result<BitString> {
+        BitStringRef::new(0, &[170])?.ref_to_owned(alloc)
+    }
+}
+
+#[test]
+fn identifiers_of_a_type(rt: HostRuntime) -> Result<(), Fail> {
+    let wanted = AlgorithmIdentifierOwned::from_der(rt.alloc(), &P256)?;
+    assert_eq!(rt; OnCurve.algorithm_identifier(rt.alloc())?, wanted);
+    assert_eq!(rt; OnCurve.signature_algorithm_identifier(rt.alloc())?, wanted);
+    let bits = OnCurve.to_bitstring(rt.alloc())?;
+    assert_eq!(rt;
+        bits.to_der(rt.alloc())?.as_slice(),
+        [3, 2, 0, 170].as_slice()
+    );
+    Ok(())
+}

@@ -1,0 +1,129 @@
+//! Types that are read from public key documents or written as such, and algorithms that belong to a type.
+ghost use Rattle.std.specs.Prelude.{◌≡◌, ℕ, List, Result as Answer, Ok, Err};
+ghost use Rattle.der_core.specs.declared.error.Error.{Error as DerError};
+ghost use Rattle.der_small.specs.Bits.{PlainBits};
+ghost use Rattle.der_small.specs.BitString.{plain_bits};
+ghost use Rattle.der_small.specs.Document.{document_bytes};
+ghost use Rattle.spki.specs.declared.error.Error.{Error as Refusal};
+ghost use Rattle.spki.specs.Answers.{IsOfAFile, GivesValue, GivesBytes, GivesBits};
+ghost use Rattle.spki.specs.Identifier.{Identifier, OwnedIdentifier, identifier_of};
+
+use crate::{AlgorithmIdentifier, AlgorithmIdentifierOwned, Result};
+use der_small::{Any, BitString, Document, Encode};
+use std::alloc::Global;
+
+/// A type that is read from the document of a public key.
+pub trait DecodePublicKey: Sized + Drop {
+    // What contracts see of a key.
+    ghost Plain: { Type 0 };
+
+    ghost plain: { Self → Plain };
+
+    // The one answer to each list of bytes.
+    ghost HasAnswer: { List ℕ → Answer Plain Refusal → Type 0 };
+
+    /// Reads the document of a key of this type.
+    fn from_public_key_der(alloc: Global, bytes: &[u8]) -> Result<Self>
+        ensures { GivesValue plain HasAnswer bytes.now result };
+
+    ghost one_answer: { (bytes : List ℕ) (one other : Answer Plain Refusal) → HasAnswer bytes one → HasAnswer bytes other → one ≡ other };
+
+    ghost no_file: { (bytes : List ℕ) (e : Refusal) → HasAnswer bytes (Err e) → IsOfAFile e → ⊥ };
+}
+
+/// A type that is written as the document of a public key.
+pub trait EncodePublicKey {
+    // The one answer of each value: the bytes of its document, or why it has none.
+    ghost document: { Self → Answer (List ℕ) Refusal };
+
+    /// The document of the key.
+    fn to_public_key_der(&self, alloc: Global) -> Result<Document>
+        ensures { GivesBytes document_bytes (document self.now) result };
+
+    ghost no_file: { (v : Self) (e : Refusal) → document v ≡ Err e → IsOfAFile e → ⊥ };
+}
+
+/// A type whose values are all keys of one algorithm.
+pub trait AssociatedAlgorithmIdentifier {
+    /// What the algorithm needs to know beside the key.
+    type Params: Encode + Drop;
+
+    ghost algorithm: { Identifier };
+
+    /// The algorithm of the type.
+    fn associated_algorithm_identifier() -> AlgorithmIdentifier<Self::Params>
+        ensures { identifier_of Self.Params.encoding result ≡ algorithm };
+}
+
+/// A type whose values each tell the algorithm that they are keys of.
+pub trait DynAssociatedAlgorithmIdentifier {
+    ghost algorithm_of: { Self → Identifier };
+
+    /// The algorithm of this key.
+    fn algorithm_identifier(&self, alloc: Global) -> Result<AlgorithmIdentifierOwned>
+        ensures { OwnedIdentifier (algorithm_of self.now) result };
+}
+
+impl<T: AssociatedAlgorithmIdentifier> DynAssociatedAlgorithmIdentifier for T {
+    ghost algorithm_of = { λ _. T.algorithm };
+
+    fn algorithm_identifier(&self, alloc: Global) -> Result<AlgorithmIdentifierOwned> {
+        owned_identifier(alloc, &T::associated_algorithm_identifier())
+    }
+}
+
+/// A type whose keys make or check signatures of one algorithm.
+pub trait SignatureAlgorithmIdentifier {
+    /// What the algorithm needs to know beside the key.
+    type Params: Encode + Drop;
+
+    ghost algorithm: { Identifier };
+
+    /// The algorithm of the type's signatures.
+    fn associated_signature_algorithm_identifier() -> AlgorithmIdentifier<Self::Params>
+        ensures { identifier_of Self.Params.encoding result ≡ algorithm };
+}
+
+/// A type whose keys each tell the algorithm of their signatures.
+pub trait DynSignatureAlgorithmIdentifier {
+    ghost signature_algorithm_of: { Self → Identifier };
+
+    /// The algorithm of this key's signatures.
+    fn signature_algorithm_identifier(&self, alloc: Global) -> Result<AlgorithmIdentifierOwned>
+        ensures { OwnedIdentifier (signature_algorithm_of self.now) result };
+}
+
+impl<T: SignatureAlgorithmIdentifier> DynSignatureAlgorithmIdentifier for T {
+    ghost signature_algorithm_of = { λ _. T.algorithm };
+
+    fn signature_algorithm_identifier(&self, alloc: Global) -> Result<AlgorithmIdentifierOwned> {
+        owned_identifier(alloc, &T::associated_signature_algorithm_identifier())
+    }
+}
+
+/// A signature that certificates hold as a bit string.
+pub trait SignatureBitStringEncoding {
+    // The one answer of each signature.
+    ghost bits: { Self → Answer PlainBits DerError };
+
+    /// The bit string of the signature.
+    fn to_bitstring(&self, alloc: Global) -> der_small::Result<BitString>
+        ensures { GivesBits plain_bits (bits self.now) result };
+}
+
+/// The same identifier, with bytes of its own.
+fn owned_identifier<Params: Encode>(
+    alloc: Global,
+    identifier: &AlgorithmIdentifier<Params>,
+) -> Result<AlgorithmIdentifierOwned>
+    ensures { OwnedIdentifier (identifier_of Params.encoding identifier.now) result }
+{
+    let parameters = match &identifier.parameters {
+        None => None,
+        Some(parameters) => Some(Any::encode_from(alloc, parameters)?),
+    };
+    Ok(AlgorithmIdentifier {
+        oid: identifier.oid,
+        parameters,
+    })
+}
