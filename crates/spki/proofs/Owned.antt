@@ -98,6 +98,9 @@ algorithm_seen v = ap (λ (x : List ℕ). encode 48 (encode 6 (oid_content v.oid
 pub algorithm_lawful : (v : AlgorithmIdentifier AnyRef) → IsAlgorithm (plain_algorithm plain_ref v)
 algorithm_lawful v = record { oid = v.oid.holds.content; parameters = optional_lawful v.parameters }
 
+pub algorithm_plain : (b : List ℕ) (v : AlgorithmIdentifier AnyRef) → ReadsAlgorithmRef b v → ReadsAlgorithm b (plain_algorithm plain_ref v)
+algorithm_plain b v r = record { is = algorithm_written b v r ∙ algorithm_seen v; fits = r.fits; lawful = algorithm_lawful v }
+
 pub same_algorithms : BorrowsAny → SameReads ReadsAlgorithmRef ReadsAlgorithm
 same_algorithms any =
     same_written ReadsAlgorithmRef algorithm_encoding (plain_algorithm plain_ref) algorithm_der IsAlgorithm algorithm_written (λ b v r. r.fits) algorithm_read algorithm_seen algorithm_lawful (borrows_algorithm any)

@@ -15,7 +15,7 @@ use Rattle.spki.specs.declared.error.Error.TheVariants as error
 use Rattle.spki.specs.Algorithm.{optional_bytes}
 use Rattle.spki.specs.Answers.{IsOfAFile, ReadAnswer, written_answer}
 use Rattle.spki.specs.Parts.{front_fits, rest_fits}
-use Rattle.spki.specs.PlainAlgorithm.{PlainAlgorithm, IsAlgorithm, algorithm_der}
+use Rattle.spki.specs.PlainAlgorithm.{PlainAlgorithm, IsAlgorithm, ReadsAlgorithm, algorithm_der}
 use Rattle.spki.specs.PlainPublicKey.{PlainPublicKey, IsPublicKey, ReadsPublicKey, public_key_der}
 
 -- What is read with one value of the profile for each encoding, and one value for each of these.
@@ -23,17 +23,17 @@ pub record ReadsOne {P : Type 0} (Reads : List ℕ → P → Type 0) : Type 0 wh
   pub value : (b : List ℕ) (v : P) → Reads b v → IsValue b
   pub one : (b : List ℕ) (v w : P) → Reads b v → Reads b w → v ≡ w
 
-no_front_of : {P : Type 0} (Reads : List ℕ → P → Type 0) (bytes : List ℕ) (v : P) → Reads bytes v → NoFront Reads bytes → ⊥
+pub no_front_of : {P : Type 0} (Reads : List ℕ → P → Type 0) (bytes : List ℕ) (v : P) → Reads bytes v → NoFront Reads bytes → ⊥
 no_front_of Reads bytes v r none = none bytes [] v r (sym (append-nil bytes))
 
-no_trail_of : {P : Type 0} (Reads : List ℕ → P → Type 0) → ReadsOne Reads → (bytes : List ℕ) (v : P) (decoded remaining : ℕ) → Reads bytes v → Trails Reads bytes decoded remaining → ⊥
+pub no_trail_of : {P : Type 0} (Reads : List ℕ → P → Type 0) → ReadsOne Reads → (bytes : List ℕ) (v : P) (decoded remaining : ℕ) → Reads bytes v → Trails Reads bytes decoded remaining → ⊥
 no_trail_of Reads law bytes v decoded remaining r t =
     t.some_rest (values_unique t.front t.rest bytes [] (law.value t.front t.value t.reads) (law.value bytes v r) (sym t.is ∙ sym (append-nil bytes))).1
 
-no_trail_front : {P : Type 0} (Reads : List ℕ → P → Type 0) (bytes : List ℕ) (decoded remaining : ℕ) → NoFront Reads bytes → Trails Reads bytes decoded remaining → ⊥
+pub no_trail_front : {P : Type 0} (Reads : List ℕ → P → Type 0) (bytes : List ℕ) (decoded remaining : ℕ) → NoFront Reads bytes → Trails Reads bytes decoded remaining → ⊥
 no_trail_front Reads bytes decoded remaining none t = none t.front t.rest t.value t.reads t.is
 
-same_trail : {P : Type 0} (Reads : List ℕ → P → Type 0) → ReadsOne Reads → (bytes : List ℕ) (d r d' r' : ℕ) → Trails Reads bytes d r → Trails Reads bytes d' r' → (d ≡ d') × (r ≡ r')
+pub same_trail : {P : Type 0} (Reads : List ℕ → P → Type 0) → ReadsOne Reads → (bytes : List ℕ) (d r d' r' : ℕ) → Trails Reads bytes d r → Trails Reads bytes d' r' → (d ≡ d') × (r ≡ r')
 same_trail Reads law bytes d r d' r' t u =
     let same = values_unique t.front t.rest u.front u.rest (law.value t.front t.value t.reads) (law.value u.front u.value u.reads) (sym t.is ∙ u.is) in
     (t.decoded_is ∙ ap (λ (x : List ℕ). length x) same.0 ∙ sym u.decoded_is, t.remaining_is ∙ ap (λ (x : List ℕ). length x) same.1 ∙ sym u.remaining_is)
@@ -141,7 +141,7 @@ same_keys p q lp lq fp fq e =
     let with_octets : List ℕ → PlainPublicKey = λ o. record { algorithm = q.algorithm; key = record { unused_bits = q.key.unused_bits; octets = o } } in
     ap with_algorithm algorithm ∙ ap with_unused unused ∙ ap with_octets octets
 
-public_key_value : (b : List ℕ) (p : PlainPublicKey) → ReadsPublicKey b p → IsValue b
+pub public_key_value : (b : List ℕ) (p : PlainPublicKey) → ReadsPublicKey b p → IsValue b
 public_key_value b p r = record {
   tag = 48;
   content = algorithm_der p.algorithm ++ encode 3 (p.key.unused_bits ∷ p.key.octets);
@@ -158,3 +158,15 @@ reads_one_public_key = record { value = public_key_value; one = public_key_one }
 
 pub public_key_one_answer : (bytes : List ℕ) (one other : Result PlainPublicKey Error) → ReadAnswer ReadsPublicKey bytes one → ReadAnswer ReadsPublicKey bytes other → one ≡ other
 public_key_one_answer = read_one_answer ReadsPublicKey reads_one_public_key
+
+pub algorithm_one : (b : List ℕ) (p q : PlainAlgorithm) → ReadsAlgorithm b p → ReadsAlgorithm b q → p ≡ q
+algorithm_one b p q r s =
+    let a_p : List ℕ = encode 6 p.oid ++ optional_bytes der_of p.parameters in
+    let a_q : List ℕ = encode 6 q.oid ++ optional_bytes der_of q.parameters in
+    let fit_p = subst (λ (x : List ℕ). length x < 2 ^ 32) r.is r.fits in
+    let fit_q = subst (λ (x : List ℕ). length x < 2 ^ 32) s.is s.fits in
+    let same = same_value 48 a_p [] 48 a_q [] tag_48 fit_p tag_48 fit_q (ap (λ (x : List ℕ). x ++ []) (sym r.is ∙ s.is)) in
+    same_fields p q r.lawful s.lawful (content_fits 48 a_p fit_p) (content_fits 48 a_q fit_q) same.contents
+
+pub algorithm_value : (b : List ℕ) (p : PlainAlgorithm) → ReadsAlgorithm b p → IsValue b
+algorithm_value b p r = record { tag = 48; content = encode 6 p.oid ++ optional_bytes der_of p.parameters; tag_ok = tag_48; is = r.is; fits = r.fits }

@@ -1,0 +1,2 @@
+-- What is shown of a private key.
+use Rattle.std.specs.Prelude.{ℕ}

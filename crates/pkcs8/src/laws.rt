@@ -1,0 +1,1 @@
+//! Laws of private keys, each as the contract of a function.
