@@ -1,8 +1,8 @@
 -- What the contracts of this crate cite.
 pub mod Answers
-pub mod Debug
 pub mod Error
 pub mod Extensions
+pub mod KeyFiles
 pub mod PlainPrivateKey
 pub mod PrivateKey
 pub mod PrivateKeyInfo

@@ -6,6 +6,7 @@ pub mod Answers
 pub mod Error
 pub mod Fingerprint
 pub mod Identifier
+pub mod KeyFiles
 pub mod Parts
 pub mod PlainAlgorithm
 pub mod PlainPublicKey

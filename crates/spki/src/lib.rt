@@ -4,6 +4,7 @@
 mod algorithm;
 mod digest;
 mod error;
+mod key_file;
 mod laws;
 mod length;
 mod spki;

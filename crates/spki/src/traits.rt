@@ -6,10 +6,15 @@ ghost use Rattle.der_small.specs.BitString.{plain_bits};
 ghost use Rattle.der_small.specs.Document.{document_bytes};
 ghost use Rattle.spki.specs.declared.error.Error.{Error as Refusal};
 ghost use Rattle.spki.specs.Answers.{IsOfAFile, GivesValue, GivesBytes, GivesBits};
+ghost use Rattle.std.specs.Option.{ForSome};
+ghost use Rattle.identity_io.specs.Files.{file_at};
+ghost use Rattle.spki.specs.KeyFiles.{KeyFileCause, ReadsKeyFile, WritesKeyFile};
 ghost use Rattle.spki.specs.Identifier.{Identifier, OwnedIdentifier, identifier_of};
 
+use crate::key_file::{read_key_file, write_key_file};
 use crate::{AlgorithmIdentifier, AlgorithmIdentifierOwned, Result};
 use der_small::{Any, BitString, Document, Encode};
+use identity_io::Disk;
 use std::alloc::Global;
 
 /// A type that is read from the document of a public key.
@@ -29,6 +34,19 @@ pub trait DecodePublicKey: Sized + Drop {
     ghost one_answer: { (bytes : List ℕ) (one other : Answer Plain Refusal) → HasAnswer bytes one → HasAnswer bytes other → one ≡ other };
 
     ghost no_file: { (bytes : List ℕ) (e : Refusal) → HasAnswer bytes (Err e) → IsOfAFile e → ⊥ };
+
+    /// Reads a key from a file, which is read as a document first.
+    final fn read_public_key_der_file<D: Disk>(
+        alloc: Global,
+        disk: &mut D,
+        path: &str,
+    ) -> Result<Self>
+        ensures read { ForSome (D.files disk.old) (λ known. ReadsKeyFile plain HasAnswer (file_at path.now known) result) }
+        ensures kept { D.files disk.new ≡ D.files disk.old }
+        ensures cause { KeyFileCause (D.faults disk.old) (D.faults disk.new) result }
+    {
+        read_key_file(alloc, disk, path)
+    }
 }
 
 /// A type that is written as the document of a public key.
@@ -41,6 +59,19 @@ pub trait EncodePublicKey {
         ensures { GivesBytes document_bytes (document self.now) result };
 
     ghost no_file: { (v : Self) (e : Refusal) → document v ≡ Err e → IsOfAFile e → ⊥ };
+
+    /// Writes the document of the key to a file.
+    final fn write_public_key_der_file<D: Disk>(
+        &self,
+        alloc: Global,
+        disk: &mut D,
+        path: &str,
+    ) -> Result<()>
+        ensures wrote { WritesKeyFile (document self.now) path.now (D.files disk.old) (D.files disk.new) result }
+        ensures cause { KeyFileCause (D.faults disk.old) (D.faults disk.new) result }
+    {
+        write_key_file(self, alloc, disk, path)
+    }
 }
 
 /// A type whose values are all keys of one algorithm.

@@ -1,8 +1,9 @@
 use crate::{
-    DecodePrivateKey, EncodePrivateKey, PrivateKeyInfo, PrivateKeyInfoOwned, PrivateKeyInfoRef,
-    Version,
+    DecodePrivateKey, EncodePrivateKey, Error, PrivateKeyInfo, PrivateKeyInfoOwned,
+    PrivateKeyInfoRef, Version,
 };
 use der_small::{Decode, Encode};
+use identity_io::{Disk, MemoryDisk};
 use std::test::Fail;
 
 // An Ed25519 key by `openssl genpkey -algorithm ed25519 | openssl pkey -outform DER`.
@@ -88,6 +89,31 @@ fn a_key_with_attributes_and_public_key(rt: HostRuntime) -> Result<(), Fail> {
     assert_eq!(rt; format!(in rt.alloc(); "{same:?}")?, shown);
     assert!(rt;
         shown.as_str().starts_with("PrivateKeyInfo { version: V2, algorithm: AlgorithmIdentifier")
+    );
+    Ok(())
+}
+
+#[test]
+fn files_of_keys(rt: HostRuntime) -> Result<(), Fail> {
+    let key = PrivateKeyInfoOwned::from_der(rt.alloc(), &BY_OPENSSL)?;
+    // The fifth call fails.
+    let mut disk = MemoryDisk::new(rt.alloc(), vec![in rt.alloc(); 4]?);
+    key.write_pkcs8_der_file(rt.alloc(), &mut disk, "k")?;
+    assert_eq!(rt;
+        disk.read_file(rt.alloc(), "k")?.as_slice(),
+        BY_OPENSSL.as_slice()
+    );
+    let read = PrivateKeyInfoOwned::read_pkcs8_der_file(rt.alloc(), &mut disk, "k")?;
+    assert_eq!(rt; read, key);
+    let missing = PrivateKeyInfoOwned::read_pkcs8_der_file(rt.alloc(), &mut disk, "x");
+    assert_eq!(rt;
+        missing.err(),
+        Some(Error::Asn1(der_small::Error::FileMissing))
+    );
+    let failed = PrivateKeyInfoOwned::read_pkcs8_der_file(rt.alloc(), &mut disk, "k");
+    assert_eq!(rt;
+        failed.err(),
+        Some(Error::Asn1(der_small::Error::FileFault))
     );
     Ok(())
 }

@@ -3,6 +3,7 @@ use crate::{
 };
 use base64ct::{Base64, Encoding};
 use der_small::{Decode, DerOrd, Encode, Tag, ValueOrd};
+use identity_io::{Disk, MemoryDisk};
 use std::cmp::Ordering;
 use std::test::Fail;
 
@@ -148,6 +149,29 @@ fn texts_and_conversions_of_errors(rt: HostRuntime) -> Result<(), Fail> {
     assert_eq!(rt;
         <SubjectPublicKeyInfoRef as der_small::FixedTag>::TAG,
         Tag::SEQUENCE
+    );
+    Ok(())
+}
+
+#[test]
+fn files_of_keys(rt: HostRuntime) -> Result<(), Fail> {
+    let bytes = Base64::decode_vec(rt.alloc(), ED25519)?;
+    let key = SubjectPublicKeyInfoOwned::from_der(rt.alloc(), &bytes)?;
+    // The fifth call fails.
+    let mut disk = MemoryDisk::new(rt.alloc(), vec![in rt.alloc(); 4]?);
+    key.write_public_key_der_file(rt.alloc(), &mut disk, "k")?;
+    assert_eq!(rt; disk.read_file(rt.alloc(), "k")?, bytes);
+    let read = SubjectPublicKeyInfoOwned::read_public_key_der_file(rt.alloc(), &mut disk, "k")?;
+    assert_eq!(rt; read, key);
+    let missing = SubjectPublicKeyInfoOwned::read_public_key_der_file(rt.alloc(), &mut disk, "x");
+    assert_eq!(rt;
+        missing.err(),
+        Some(Error::Asn1(der_small::Error::FileMissing))
+    );
+    let failed = SubjectPublicKeyInfoOwned::read_public_key_der_file(rt.alloc(), &mut disk, "k");
+    assert_eq!(rt;
+        failed.err(),
+        Some(Error::Asn1(der_small::Error::FileFault))
     );
     Ok(())
 }

@@ -1,2 +1,0 @@
--- What is shown of a private key.
-use Rattle.std.specs.Prelude.{ℕ}
