@@ -1,5 +1,5 @@
 -- Where the fields of a sequence cannot be read, it stands for no value.
-use Rattle.std.proofs.Common.{◌≡◌, ◌↔◌, ℕ, List, [], ◌++◌, length, Bool, true, false, not, Option, Some, None, refl, sym}
+use Rattle.std.proofs.Common.{◌≡◌, ◌↔◌, ℕ, List, [], Bool, true, false, Option, Some, None, sym}
 use Rattle.std.proofs.lemmas.List.{append-nil}
 use Rattle.der_core.specs.Der.{IsValue}
 use Rattle.der_core.specs.Decode.{Front, NoFront, ReadsTagged, ReadsTagged-one_value}

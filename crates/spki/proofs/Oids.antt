@@ -1,5 +1,5 @@
 -- Values of any tag that are read as object identifiers.
-use Rattle.std.proofs.Common.{◌≡◌, ◌≢◌, ℕ, List, [], ◌++◌, length, take, drop, replicate, Option, Some, None, Result, Ok, Err, refl, sym, ◌∙◌}
+use Rattle.std.proofs.Common.{◌≡◌, ℕ, List, ◌++◌, length, drop, replicate, Some, Err, refl}
 use Rattle.std.proofs.Math.Seq.{take-append_seam}
 use Rattle.der_core.specs.Any.{PlainAny}
 use Rattle.der_core.specs.Decode.{DecodedAs}
@@ -9,8 +9,6 @@ use Rattle.der_core.proofs.Oids.{holds_oid}
 use Rattle.der_core.specs.declared.oid.ObjectIdentifier.{ObjectIdentifier}
 use Rattle.der_core.specs.declared.error.Error.{Error as DerError}
 use Rattle.der_core.specs.declared.error.Error.TheVariants as der
-use Rattle.spki.specs.declared.error.Error.{Error}
-use Rattle.spki.specs.declared.error.Error.TheVariants as error
 use Rattle.spki.specs.Error.{from_der_error}
 use Rattle.spki.specs.AlgorithmOids.{IsNoOid, ParametersOid}
 

@@ -1,5 +1,5 @@
 -- The owned forms read what the borrowed ones read.
-use Rattle.std.proofs.Common.{◌≡◌, ℕ, ◌<◌, ◌^◌, List, [], ◌∷◌, ◌++◌, length, Option, Some, None, option_map, IfSome, refl, sym, ap, subst, ◌∙◌}
+use Rattle.std.proofs.Common.{◌≡◌, ℕ, ◌<◌, ◌^◌, List, ◌∷◌, ◌++◌, length, Option, Some, None, option_map, IfSome, refl, sym, ap, subst, ◌∙◌}
 use Rattle.der_core.specs.Any.{PlainAny, plain_ref, der_of}
 use Rattle.der_core.specs.Decode.{ReadsTagged, ReadsAny}
 use Rattle.der_core.specs.Der.{IsTag, encode}

@@ -1,8 +1,7 @@
 -- What is read of an algorithm identifier is what is written.
-use Rattle.std.proofs.Common.{◌≡◌, ℕ, ◌+◌, ◌<◌, ◌≤◌, ◌^◌, List, [], ◌++◌, length, Option, Some, None, refl, ap, sym, ◌∙◌, arith, length-append}
-use Rattle.der_core.specs.Der.{length_bytes, encode}
+use Rattle.std.proofs.Common.{◌≡◌, ℕ, ◌<◌, ◌^◌, List, ◌++◌, length, Option, Some, None, refl, ap, sym, ◌∙◌}
+use Rattle.der_core.specs.Der.{encode}
 use Rattle.der_core.specs.ObjectIdentifier.{oid_content}
-use Rattle.der_core.specs.Decode.{ReadsTagged}
 use Rattle.spki.specs.declared.algorithm.AlgorithmIdentifier.{AlgorithmIdentifier}
 use Rattle.spki.specs.Algorithm.{AreParameters, AlgorithmContent, optional_bytes, algorithm_content}
 use Rattle.spki.specs.Parts.{front_fits, rest_fits}

@@ -1,9 +1,8 @@
 -- Fingerprints of public keys (RFC 7469, 2.4): the digest of the whole encoding.
-use Rattle.std.specs.Prelude.{◌≡◌, ℕ, ◌<◌, ◌≤◌, ◌^◌, true, List, length, Result, Ok, Err}
+use Rattle.std.specs.Prelude.{◌≡◌, ℕ, ◌≤◌, ◌^◌, true, List, length}
 use Rattle.base64_alphabet.specs.Encoding.{encoding_of}
 use Rattle.base64_alphabet.specs.Group.{High}
 use Rattle.base64_alphabet.specs.Standard.{standard}
-use Rattle.sha2.specs.Sha256.{sha256}
 use Rattle.der_core.specs.declared.error.Error.TheVariants as der
 use Rattle.spki.specs.declared.error.Error.{Error}
 use Rattle.spki.specs.declared.error.Error.TheVariants as error

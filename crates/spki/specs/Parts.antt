@@ -1,5 +1,5 @@
 -- Parts of a list are no longer than the list.
-use Rattle.std.proofs.Common.{◌≡◌, ℕ, ◌+◌, ◌<◌, ◌≤◌, ◌^◌, List, ◌++◌, length, sym, subst, length-append}
+use Rattle.std.proofs.Common.{ℕ, ◌<◌, ◌≤◌, ◌^◌, List, ◌++◌, length, sym, subst, length-append}
 use Rattle.std.proofs.Math.Nat.{le-add_left, le-add_right, lt_of_le_of_lt}
 
 pub front_fits : (a b : List ℕ) → length (a ++ b) < 2 ^ 32 → length a < 2 ^ 32

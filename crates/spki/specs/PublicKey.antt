@@ -1,5 +1,5 @@
 -- Public keys (RFC 5280, 4.1.2.7): SEQUENCE { algorithm AlgorithmIdentifier, subjectPublicKey BIT STRING }.
-use Rattle.std.specs.Prelude.{ℕ, List, [], ◌++◌, ◌≡◌}
+use Rattle.std.specs.Prelude.{ℕ, List, ◌++◌}
 use Rattle.der_core.specs.Decode.{ReadsTagged}
 use Rattle.der_core.specs.Der.{encode}
 use Rattle.der_core.specs.Sequence.{Then}

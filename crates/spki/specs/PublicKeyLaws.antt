@@ -1,9 +1,7 @@
 -- What is read of a public key is what is written.
 use Rattle.std.proofs.Common.{◌≡◌, ℕ, ◌<◌, ◌^◌, List, ◌++◌, length, refl, ap, ◌∙◌}
 use Rattle.der_core.specs.Der.{encode}
-use Rattle.der_core.specs.Decode.{ReadsTagged}
 use Rattle.der_core.specs.Laws.{tagged_reads_encoding, tagged_encoding_reads}
-use Rattle.spki.specs.declared.algorithm.AlgorithmIdentifier.{AlgorithmIdentifier}
 use Rattle.spki.specs.declared.spki.SubjectPublicKeyInfo.{SubjectPublicKeyInfo}
 use Rattle.spki.specs.Algorithm.{AlgorithmContent, algorithm_content}
 use Rattle.spki.specs.AlgorithmLaws.{algorithm_reads_content, algorithm_content_reads}

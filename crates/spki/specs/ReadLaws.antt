@@ -9,7 +9,6 @@ use Rattle.der_core.specs.Tags.{tag_3, tag_6, tag_48}
 use Rattle.der_core.specs.declared.error.Error.TheVariants as der
 use Rattle.der_core.proofs.Tagged.{same_value}
 use Rattle.der_core.proofs.Values.{values_unique}
-use Rattle.der_small.specs.Bits.{PlainBits}
 use Rattle.spki.specs.declared.error.Error.{Error}
 use Rattle.spki.specs.declared.error.Error.TheVariants as error
 use Rattle.spki.specs.Algorithm.{optional_bytes}
