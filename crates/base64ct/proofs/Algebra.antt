@@ -1,9 +1,8 @@
 -- Groups there and back.
-use Rattle.std.proofs.Common.{◌≡◌, ℕ, zero, suc, ◌+◌, ◌-◌, ◌*◌, ◌/◌, ◌%◌, ◌<◌, ◌≤◌, Bool, true, false, ◌&&◌, ◌==◌, not, List, [], ◌∷◌, ◌++◌, length, slice_index, take, drop, arith, rules, refl, if◌then◌else◌, ap, sym, ◌∙◌, inl, inr, map, All}
+use Rattle.std.proofs.Common.{◌≡◌, ℕ, zero, suc, ◌+◌, ◌*◌, ◌/◌, ◌%◌, ◌<◌, true, ◌==◌, not, List, [], ◌∷◌, length, slice_index, arith, rules, refl, ap, inl, inr}
 use Rattle.std.proofs.lemmas.Bool.{and_parts, cases_Bool, eqb-true}
-use Rattle.std.proofs.lemmas.Grind.{common_steps}
-use Rattle.base64_alphabet.specs.Group.{End, High, Low, bytes_of, bytes_of_number, bytes_of_places, characters_of, digits_of_number, number, number_of_places}
-use Rattle.base64_alphabet.specs.Table.{all_in, digit_of, is_distinct, is_in}
+use Rattle.base64_alphabet.specs.Group.{End, High, Low, bytes_of_number, digits_of_number, number, number_of_places}
+use Rattle.base64_alphabet.specs.Table.{digit_of, is_distinct, is_in}
 
 -- the bytes of a group's number
 pub bytes_back : (end : End) (a b c : ℕ) → a < 256 → b < 256 → c < 256 → bytes_of_number end (number end a b c) ≡ a ∷ b ∷ c ∷ []

@@ -1,26 +1,26 @@
 -- What a decoder has left, and the bytes of its text.
-use Rattle.std.proofs.Common.{◌≡◌, ℕ, zero, suc, ◌+◌, ◌-◌, ◌*◌, ◌/◌, ◌%◌, ◌<◌, ◌≤◌, Bool, true, false, ◌&&◌, ◌||◌, ◌==◌, List, [], ◌∷◌, ◌++◌, length, slice_index, take, drop, arith, refl, ap, sym, ◌∙◌, map, append-nil, append_assoc, Option, Some, None, if◌then◌else◌, replicate, All, Contains, inl, inr, length-append, length-drop}
-use Rattle.std.proofs.lemmas.Bool.{cases_Bool, both_ways, eqb-true, and_parts, or_from}
+use Rattle.std.proofs.Common.{◌≡◌, ℕ, zero, suc, ◌+◌, ◌-◌, ◌*◌, ◌/◌, ◌%◌, ◌<◌, ◌≤◌, Bool, true, false, ◌&&◌, ◌==◌, List, [], ◌∷◌, ◌++◌, length, slice_index, take, drop, arith, refl, ap, sym, ◌∙◌, map, append-nil, Option, Some, None, if◌then◌else◌, replicate, All, Contains, inl, inr, IsAscii, length-append, length-drop}
+use Rattle.std.proofs.lemmas.Bool.{cases_Bool, both_ways, eqb-true, and_parts}
 use Rattle.std.proofs.lemmas.List.{take-append-drop, length-take-le, take_all, take_at, drop_all}
 use Rattle.std.proofs.lemmas.Slice.{drop-put_mid}
 use borrow.Rule.Slice.PartMut.{put_mid}
-use Rattle.std.proofs.lemmas.List.Elements.{All-cons, All-append, All-nil, Contains-append_left, Contains-append_right, All-replicate, All-take, All-same}
+use Rattle.std.proofs.lemmas.List.Elements.{All-cons, All-append, All-nil, Contains-append_left, Contains-append_right, All-replicate, All-take, All-same, All-tail}
 use Rattle.base64_alphabet.specs.Table.{all_in, is_in}
 use Rattle.base64_alphabet.specs.Group.{End, High, Low, bytes_of, characters_of}
 use Rattle.base64_alphabet.specs.Encoding.{characters, encoding_of, bytes_of_blocks, padding_len}
-use Rattle.base64_alphabet.proofs.TableLemmas.{Facts}
-use Rattle.base64ct.specs.Canonical.{IsBytes}
+use Rattle.base64_alphabet.proofs.TableLemmas.{Facts, ascii_at}
+use Rattle.base64ct.specs.Canonical.{IsBytes, decoded_len, unpadded_len, IsDecodeError, IsDecodeVecError}
 use Rattle.base64ct.specs.LastBlock.{last_at, HasCanonicalEnd}
 use Rattle.base64ct.specs.Items.{block_items, items, loose_bytes, IsCanonicalEnd, IsWrapped, IsWrapError}
 use Rattle.base64ct.specs.declared.errors.Error.{Error}
 use Rattle.base64ct.specs.declared.errors.Error.TheVariants.{InvalidEncoding, InvalidLength, OutOfMemory}
-use Rattle.base64ct.specs.Lines.{IsLine, is_line_break, Lines, joined, has_endings, ends_in_ending, IsWrappedText}
+use Rattle.base64ct.specs.Lines.{IsLine, is_line_break, joined, has_endings, IsWrappedText}
 use Rattle.base64ct.proofs.Algebra.{is_in_at}
-use Rattle.base64ct.specs.Walk.{joined_from}
 use Rattle.base64ct.proofs.LinesLemmas.{lines_are, joined-walk, joined_some, lines_back}
+use Rattle.base64ct.proofs.EncodingLemmas.{length-encoding_of}
 use Rattle.base64ct.proofs.LastLemmas.{is_last}
 use Rattle.base64ct.proofs.ItemsLemmas.{last_loose, map-append, encoding_items}
-use Rattle.base64ct.proofs.WholeLemmas.{whole_text, halves, length-bytes_of_blocks, written_text}
+use Rattle.base64ct.proofs.WholeLemmas.{whole_text, halves, written_text}
 
 -- lists of good items
 pub map_some_back : (xs ys : List ℕ) → map {A = ℕ} {B = Option ℕ} Some xs ≡ map Some ys → xs ≡ ys
@@ -132,14 +132,14 @@ some_characters Low table x (y ∷ []) = omega arith
 some_characters High table x (y ∷ z ∷ b) = omega arith
 some_characters Low table x (y ∷ z ∷ b) = omega arith
 
-empty_value : (end : End) (table : List ℕ) (padded : Bool) (b : List ℕ) → encoding_of end table padded b ≡ [] → b ≡ []
+pub empty_value : (end : End) (table : List ℕ) (padded : Bool) (b : List ℕ) → encoding_of end table padded b ≡ [] → b ≡ []
 empty_value end table padded [] h = refl
 empty_value end table padded (x ∷ b) h = absurd (let s = some_characters end table x b in
     let e = length-append (characters end table (x ∷ b)) (if padded then replicate (padding_len (length (x ∷ b))) 61 else []) in
     let l = ap length h in omega arith)
 
 -- a text is the encoding of one list of bytes at most
-one_value : (end : End) (table : List ℕ) (padded : Bool) (t a b : List ℕ) → Facts table → IsBytes a → IsBytes b
+pub one_value : (end : End) (table : List ℕ) (padded : Bool) (t a b : List ℕ) → Facts table → IsBytes a → IsBytes b
     → t ≡ encoding_of end table padded a → t ≡ encoding_of end table padded b → a ≡ b
 one_value end table padded [] a b f x y p q = empty_value end table padded a (sym p) ∙ sym (empty_value end table padded b (sym q))
 one_value end table padded (c ∷ t) a b f x y p q =
@@ -165,31 +165,44 @@ at_place table k f lt = let l = f.len in not_break table (slice_index table k) f
 abbrev NoBreak : ℕ → Type 0
 NoBreak c = is_line_break c ≡ false
 
-line_of_four : (p q r s : ℕ) → NoBreak p → NoBreak q → NoBreak r → NoBreak s → IsLine (p ∷ q ∷ r ∷ s ∷ [])
-line_of_four p q r s a b c d = All-cons NoBreak p (q ∷ r ∷ s ∷ []) a (All-cons NoBreak q (r ∷ s ∷ []) b (All-cons NoBreak r (s ∷ []) c (All-cons NoBreak s [] d (All-nil NoBreak))))
+-- what holds of each character of the table, and of `=`, holds of each character of an encoding
+all_of_four : (P : ℕ → Type 0) (p q r s : ℕ) → P p → P q → P r → P s → All P (p ∷ q ∷ r ∷ s ∷ [])
+all_of_four P p q r s a b c d = All-cons P p (q ∷ r ∷ s ∷ []) a (All-cons P q (r ∷ s ∷ []) b (All-cons P r (s ∷ []) c (All-cons P s [] d (All-nil P))))
 
-four_line : (end : End) (table : List ℕ) (a b c : ℕ) → Facts table → a < 256 → b < 256 → c < 256 → IsLine (characters_of end table a b c)
-four_line High table a b c f x y z =
+four_all : (P : ℕ → Type 0) (end : End) (table : List ℕ) (a b c : ℕ) → ((k : ℕ) → k < 64 → P (slice_index table k)) → a < 256 → b < 256 → c < 256 → All P (characters_of end table a b c)
+four_all P High table a b c h x y z =
     let n : ℕ = a * 65536 + b * 256 + c in
-    line_of_four (slice_index table (n / 262144)) (slice_index table (n / 4096 % 64)) (slice_index table (n / 64 % 64)) (slice_index table (n % 64))
-    (at_place table (n / 262144) f (omega arith)) (at_place table (n / 4096 % 64) f (omega arith)) (at_place table (n / 64 % 64) f (omega arith)) (at_place table (n % 64) f (omega arith))
-four_line Low table a b c f x y z =
+    all_of_four P (slice_index table (n / 262144)) (slice_index table (n / 4096 % 64)) (slice_index table (n / 64 % 64)) (slice_index table (n % 64))
+    (h (n / 262144) (omega arith)) (h (n / 4096 % 64) (omega arith)) (h (n / 64 % 64) (omega arith)) (h (n % 64) (omega arith))
+four_all P Low table a b c h x y z =
     let n : ℕ = c * 65536 + b * 256 + a in
-    line_of_four (slice_index table (n % 64)) (slice_index table (n / 64 % 64)) (slice_index table (n / 4096 % 64)) (slice_index table (n / 262144))
-    (at_place table (n % 64) f (omega arith)) (at_place table (n / 64 % 64) f (omega arith)) (at_place table (n / 4096 % 64) f (omega arith)) (at_place table (n / 262144) f (omega arith))
+    all_of_four P (slice_index table (n % 64)) (slice_index table (n / 64 % 64)) (slice_index table (n / 4096 % 64)) (slice_index table (n / 262144))
+    (h (n % 64) (omega arith)) (h (n / 64 % 64) (omega arith)) (h (n / 4096 % 64) (omega arith)) (h (n / 262144) (omega arith))
 
-characters_line : (end : End) (table b : List ℕ) → Facts table → IsBytes b → IsLine (characters end table b)
+characters_all : (P : ℕ → Type 0) (end : End) (table b : List ℕ) → ((k : ℕ) → k < 64 → P (slice_index table k)) → IsBytes b → All P (characters end table b)
 unfolding characters
-characters_line end table [] f bytes = All-nil NoBreak
-characters_line end table (x ∷ []) f bytes = All-take NoBreak 2 (characters_of end table x 0 0) (four_line end table x 0 0 f (bytes 0 0 (omega arith)) (omega arith) (omega arith))
-characters_line end table (x ∷ y ∷ []) f bytes = All-take NoBreak 3 (characters_of end table x y 0) (four_line end table x y 0 f (bytes 0 0 (omega arith)) (bytes 1 0 (omega arith)) (omega arith))
-characters_line end table (x ∷ y ∷ z ∷ b) f bytes = All-append NoBreak (characters_of end table x y z) (characters end table b)
-    (four_line end table x y z f (bytes 0 0 (omega arith)) (bytes 1 0 (omega arith)) (bytes 2 0 (omega arith)))
-    (characters_line end table b f (λ k d lt. bytes (suc (suc (suc k))) d (omega arith)))
+characters_all P end table [] h bytes = All-nil P
+characters_all P end table (x ∷ []) h bytes = All-take P 2 (characters_of end table x 0 0) (four_all P end table x 0 0 h (bytes 0 0 (omega arith)) (omega arith) (omega arith))
+characters_all P end table (x ∷ y ∷ []) h bytes = All-take P 3 (characters_of end table x y 0) (four_all P end table x y 0 h (bytes 0 0 (omega arith)) (bytes 1 0 (omega arith)) (omega arith))
+characters_all P end table (x ∷ y ∷ z ∷ b) h bytes = All-append P (characters_of end table x y z) (characters end table b)
+    (four_all P end table x y z h (bytes 0 0 (omega arith)) (bytes 1 0 (omega arith)) (bytes 2 0 (omega arith)))
+    (characters_all P end table b h (λ k d lt. bytes (suc (suc (suc k))) d (omega arith)))
+
+encoding_all : (P : ℕ → Type 0) (end : End) (table : List ℕ) (padded : Bool) (b : List ℕ) → ((k : ℕ) → k < 64 → P (slice_index table k)) → P 61 → IsBytes b → All P (encoding_of end table padded b)
+encoding_all P end table true b h pad bytes = All-append P (characters end table b) (replicate (padding_len (length b)) 61) (characters_all P end table b h bytes) (All-replicate P (padding_len (length b)) 61 pad)
+encoding_all P end table false b h pad bytes = All-append P (characters end table b) [] (characters_all P end table b h bytes) (All-nil P)
 
 pub encoding_line : (end : End) (table : List ℕ) (padded : Bool) (b : List ℕ) → Facts table → IsBytes b → IsLine (encoding_of end table padded b)
-encoding_line end table true b f bytes = All-append NoBreak (characters end table b) (replicate (padding_len (length b)) 61) (characters_line end table b f bytes) (All-replicate NoBreak (padding_len (length b)) 61 refl)
-encoding_line end table false b f bytes = All-append NoBreak (characters end table b) [] (characters_line end table b f bytes) (All-nil NoBreak)
+encoding_line end table padded b f bytes = encoding_all NoBreak end table padded b (λ k lt. at_place table k f lt) refl bytes
+
+ascii_from_all : (xs : List ℕ) → All (λ c. c < 128) xs → IsAscii xs
+ascii_from_all [] h i = omega arith
+ascii_from_all (x ∷ xs) h zero = h 0 0 (omega arith)
+ascii_from_all (x ∷ xs) h (suc i) = ascii_from_all xs (All-tail (λ c. c < 128) x xs h) i
+
+pub encoding_ascii : (end : End) (table : List ℕ) (padded : Bool) (b : List ℕ) → Facts table → IsBytes b → IsAscii (encoding_of end table padded b)
+encoding_ascii end table padded b f bytes = ascii_from_all (encoding_of end table padded b)
+    (encoding_all (λ c. c < 128) end table padded b (λ k lt. ascii_at table f.ascii k) (omega arith) bytes)
 
 -- ---- texts in lines
 
@@ -316,3 +329,40 @@ empty_end end table false = record { bytes = All-nil (λ x. x < 256); same = ref
 pub some_text : (end : End) (table : List ℕ) (padded : Bool) (t : List ℕ) → (length (items end table padded t) ≡ 0 → ⊥) → 0 < length t
 some_text end table padded [] h = absurd (h (ap length (empty_items end table padded)))
 some_text end table padded (x ∷ t) h = omega arith
+
+-- ---- refusals of whole texts
+
+-- a padded encoding has whole blocks
+pub whole_blocks : (end : End) (table t b : List ℕ) → t ≡ encoding_of end table true b → length t % 4 ≡ 0
+whole_blocks end table t b is =
+    let l = ap length is in
+    let e = length-encoding_of end table b true in
+    omega arith
+
+decoded_len_le : (u n : ℕ) → u ≤ n → decoded_len u ≤ decoded_len n
+decoded_len_le u n le = omega arith
+
+unpadded_le : (padded : Bool) (t : List ℕ) → unpadded_len padded t ≤ length t
+unpadded_le false t = omega arith
+unpadded_le true t = omega arith
+
+-- with room for every text of this length
+pub vec_error : (end : End) (table : List ℕ) (padded : Bool) (t : List ℕ) (space : ℕ) (e : Error) → space ≡ decoded_len (length t)
+    → IsDecodeError end table padded t space e → IsDecodeVecError end table padded t e
+vec_error end table true t space InvalidEncoding is h = elim h [
+  | inl p ↦ λ b bytes text. p.1 (whole_blocks end table t b text)
+  | inr p ↦ p.2
+]
+vec_error end table false t space InvalidEncoding is h = elim h [
+  | inl p ↦ absurd (let e = p.0 in cc)
+  | inr p ↦ p.2
+]
+vec_error end table padded t space InvalidLength is h =
+    let le = decoded_len_le (unpadded_len padded t) (length t) (unpadded_le padded t) in
+    let lt = h.1 in
+    omega arith
+vec_error end table padded t space OutOfMemory is h = absurd h
+
+pub no_text : (t : List ℕ) → length t ≡ 0 → t ≡ []
+no_text [] h = refl
+no_text (x ∷ t) h = absurd (omega arith)

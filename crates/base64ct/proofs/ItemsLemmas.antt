@@ -1,12 +1,10 @@
 -- The items of an encoding are its bytes.
-use Rattle.std.proofs.Common.{◌≡◌, ℕ, zero, suc, ◌+◌, ◌-◌, ◌*◌, ◌/◌, ◌%◌, ◌<◌, ◌≤◌, Bool, true, false, List, [], ◌∷◌, ◌++◌, length, slice_index, take, drop, arith, refl, ap, sym, ◌∙◌, map, append-nil, append_assoc, Option, Some, None, if◌then◌else◌, replicate}
+use Rattle.std.proofs.Common.{◌≡◌, ℕ, suc, ◌+◌, ◌-◌, ◌*◌, ◌/◌, ◌%◌, ◌<◌, Bool, List, [], ◌∷◌, ◌++◌, length, take, drop, arith, refl, ap, ◌∙◌, map, append-nil, Option, Some}
 use Rattle.std.proofs.lemmas.List.{take-append-drop, length-drop}
 use Rattle.base64_alphabet.specs.Encoding.{bytes_of_blocks, characters, encoding_of}
 use Rattle.base64_alphabet.specs.Group.{End, High, Low, bytes_of, characters_of}
-use Rattle.base64_alphabet.specs.Table.{all_in, digit_of}
-use Rattle.base64ct.specs.Canonical.{IsBytes, decoded_len, unpadded_len}
+use Rattle.base64ct.specs.Canonical.{IsBytes}
 use Rattle.base64ct.specs.Items.{block_items, items, loose_bytes}
-use Rattle.base64ct.specs.LastBlock.{filled, last_at}
 use Rattle.base64_alphabet.proofs.TableLemmas.{Facts}
 use Rattle.base64ct.proofs.Algebra.{bytes_back, number_of_its_digits}
 use Rattle.base64ct.proofs.Texts.{digits_at, in_four}

@@ -1,7 +1,6 @@
 -- Lines, the pieces of a text and the walk over it.
-use Rattle.std.proofs.Common.{◌≡◌, ℕ, zero, suc, ◌+◌, ◌-◌, ◌*◌, ◌<◌, ◌≤◌, Bool, true, false, ◌&&◌, ◌||◌, ◌==◌, List, [], ◌∷◌, ◌++◌, length, take, drop, arith, rules, refl, if◌then◌else◌, ap, sym, ◌∙◌, append_assoc, sub-one, add-one, append-nil, length-append, length-drop, All, inl, inr, nat_lt, subst}
-use Rattle.std.proofs.lemmas.Bool.{cases_Bool, eqb-true, both_ways, ltb-true, ltb-false, and_parts, or_parts, or_cases}
-use Rattle.std.proofs.lemmas.Grind.{common_steps}
+use Rattle.std.proofs.Common.{◌≡◌, ℕ, zero, suc, ◌-◌, ◌<◌, ◌≤◌, Bool, true, false, ◌&&◌, ◌||◌, ◌==◌, List, [], ◌∷◌, ◌++◌, length, take, drop, arith, rules, refl, ap, sym, ◌∙◌, append_assoc, append-nil, length-append, length-drop, inl, inr, nat_lt, subst}
+use Rattle.std.proofs.lemmas.Bool.{cases_Bool, eqb-true, both_ways, ltb-true, ltb-false, and_parts, or_parts}
 use Rattle.std.proofs.lemmas.List.{take-append-drop, length-take-le}
 use Rattle.std.proofs.lemmas.List.Elements.{All-cons, All-head, All-tail}
 use Rattle.base64ct.specs.Lines.{Lines, Last, More, IsEnding, Cr, Lf, Crlf, IsLine, is_line_break, joined, joined_within, has_endings, has_endings_within, ends_in_ending, starts_with_ending, after_ending, after_lf}

@@ -1,9 +1,8 @@
 -- One more character in the last block.
-use Rattle.std.proofs.Common.{◌≡◌, ℕ, zero, suc, ◌+◌, ◌-◌, ◌*◌, ◌/◌, ◌%◌, ◌<◌, ◌≤◌, List, [], ◌∷◌, ◌++◌, length, take, drop, set, arith, refl, ap, sym, ◌∙◌, inl, inr, length-append, append_assoc, append-nil, add-one}
+use Rattle.std.proofs.Common.{◌≡◌, ℕ, zero, suc, ◌+◌, ◌-◌, ◌*◌, ◌/◌, ◌%◌, ◌<◌, ◌≤◌, List, [], ◌∷◌, ◌++◌, length, take, drop, set, arith, refl, ap, sym, ◌∙◌, inl, inr, length-append, append-nil}
 use Rattle.std.proofs.lemmas.Bool.{cases_eq}
 use Rattle.std.proofs.lemmas.Grind.{common_steps}
-use Rattle.std.proofs.lemmas.List.{length-drop, drop_at, drop-append-le, length-set, drop_more, take-append-drop, drop_all}
-use Rattle.std.proofs.Math.Seq.{take-suc-set}
+use Rattle.std.proofs.lemmas.List.{length-drop, drop_at, drop-append-le, length-set, take-append-drop}
 use Rattle.base64ct.specs.LastBlock.{last_at}
 use Rattle.base64ct.specs.Walk.{IsTail}
 

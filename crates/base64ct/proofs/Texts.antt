@@ -1,9 +1,9 @@
 -- Whole bytes_of_blocks there and back.
-use Rattle.std.proofs.Common.{◌≡◌, ℕ, zero, suc, ◌+◌, ◌-◌, ◌*◌, ◌/◌, ◌%◌, ◌<◌, ◌≤◌, Bool, true, false, ◌&&◌, ◌==◌, List, [], ◌∷◌, ◌++◌, length, slice_index, take, drop, arith, rules, refl, if◌then◌else◌, ap, sym, ◌∙◌, inl, inr, map, All, append_assoc, length-append}
-use Rattle.std.proofs.lemmas.Bool.{and_parts, and_from, cases_Bool}
+use Rattle.std.proofs.Common.{◌≡◌, ℕ, suc, ◌+◌, ◌*◌, ◌/◌, ◌%◌, ◌<◌, true, List, [], ◌∷◌, ◌++◌, length, slice_index, arith, refl, ap, sym, ◌∙◌, map, append_assoc}
+use Rattle.std.proofs.lemmas.Bool.{and_parts}
 use Rattle.base64_alphabet.specs.Encoding.{bytes_of_blocks, characters}
-use Rattle.base64_alphabet.specs.Group.{End, High, Low, bytes_of, bytes_of_number, bytes_of_places, characters_of, digits_of_number, number, number_of_places}
-use Rattle.base64_alphabet.specs.Table.{all_in, digit_of, is_distinct, is_in}
+use Rattle.base64_alphabet.specs.Group.{End, High, Low, bytes_of_places, characters_of}
+use Rattle.base64_alphabet.specs.Table.{all_in, digit_of, is_in}
 use Rattle.base64ct.specs.Canonical.{IsBytes}
 use Rattle.base64_alphabet.proofs.TableLemmas.{digit_below, Facts}
 use Rattle.base64ct.proofs.Algebra.{bytes_back, digits_back, number_of_bytes, number_of_its_digits, at_digit, is_in_at, digit_at}

@@ -1,5 +1,5 @@
 -- The last block of a text: its last one to four characters.
-use Rattle.std.specs.Prelude.{◌≡◌, ℕ, ◌+◌, ◌-◌, ◌*◌, ◌/◌, nat_lt, Bool, if◌then◌else◌, List, [], ◌∷◌, slice_index, length, take, drop}
+use Rattle.std.specs.Prelude.{◌≡◌, ℕ, ◌-◌, ◌*◌, ◌/◌, nat_lt, Bool, if◌then◌else◌, List, [], ◌∷◌, slice_index, length, drop}
 use Rattle.base64_alphabet.specs.Group.{End}
 use Rattle.base64_alphabet.specs.Encoding.{encoding_of}
 use Rattle.base64ct.specs.Canonical.{IsBytes}

@@ -1,14 +1,15 @@
 //! Decoding of whole texts.
 #![tactic(auto)]
 
-ghost use Rattle.std.specs.Prelude.{◌≡◌, ℕ, ◌<◌, ◌≤◌, ◌+◌, ◌*◌, ◌/◌, ◌%◌, ◌++◌, length, take, drop, IfOk, IfErr, true, false, ◌≢◌};
+ghost use Rattle.std.specs.Prelude.{◌≡◌, ℕ, ◌<◌, ◌≤◌, ◌+◌, ◌*◌, ◌/◌, ◌%◌, ◌++◌, List, length, take, drop, IfOk, IfErr, true, false, ◌≢◌};
 ghost use Rattle.base64_alphabet.specs.Encoding.{encoding_of, bytes_of_blocks};
 ghost use Rattle.base64_alphabet.specs.Table.{all_in};
-ghost use Rattle.base64ct.specs.Canonical.{IsDecodeError, HasWholeBlocks};
+ghost use Rattle.base64ct.specs.Canonical.{IsBytes, IsDecodeError, IsDecodeVecError, HasWholeBlocks};
 
 use crate::errors::Error;
-use crate::last_block::{count_unpadded, decode_last};
+use crate::last_block::{count_unpadded, decode_last, known};
 use base64_alphabet::{Alphabet, Steps, decode_blocks};
+use std::alloc::Global;
 use std::marker::Brand;
 use std::sync::ledger::{Blank, Ledger};
 
@@ -16,6 +17,9 @@ use std::sync::ledger::{Blank, Ledger};
 pub(crate) fn decode_into<E: Alphabet>(src: &[u8], dst: &mut [u8]) -> Result<usize, Error>
     ensures within { IfOk result (λ n. n ≤ length dst.old) }
     ensures ok { IfOk result (λ n. src.now ≡ encoding_of E.end E.table E.PADDED (take n dst.new)) }
+    ensures bytes { IfOk result (λ n. IsBytes (take n dst.new)) }
+    ensures value { (b : List ℕ) → IsBytes b → src.now ≡ encoding_of E.end E.table E.PADDED b
+        → IfOk result (λ n. take n dst.new ≡ b) }
     ensures err { IfErr result (IsDecodeError E.end E.table E.PADDED src.now (length dst.old)) }
 {
     if !has_whole_blocks(E::PADDED, src) {
@@ -39,7 +43,27 @@ pub(crate) fn decode_into<E: Alphabet>(src: &[u8], dst: &mut [u8]) -> Result<usi
         return Err(Error::InvalidEncoding);
     }
     dst[size..size + k].copy_from_slice(&bytes[..k]);
+    known(dst);
     Ok(size + k)
+}
+
+/// Decodes a text into a vector.
+pub(crate) fn decode_to_vec<E: Alphabet>(alloc: Global, src: &[u8]) -> Result<Vec<u8>, Error>
+    ensures ok { IfOk result (λ v. src.now ≡ encoding_of E.end E.table E.PADDED v.items) }
+    ensures bytes { IfOk result (λ v. IsBytes v.items) }
+    ensures value { (b : List ℕ) → IsBytes b → src.now ≡ encoding_of E.end E.table E.PADDED b
+        → IfOk result (λ v. v.items ≡ b) }
+    ensures err { IfErr result (IsDecodeVecError E.end E.table E.PADDED src.now) }
+{
+    let u = src.len();
+    let mut bytes = vec![in alloc; 0u8; 3 * (u / 4) + 3 * (u % 4) / 4]?;
+    match decode_into::<E>(src, &mut bytes) {
+        Ok(n) => {
+            bytes.truncate(n);
+            Ok(bytes)
+        }
+        Err(error) => Err(error),
+    }
 }
 
 /// Decodes whole blocks to the front of an output, and answers whether each character is in the table.

@@ -1,12 +1,16 @@
 //! Encoding of bytes.
 #![tactic(auto)]
 
-ghost use Rattle.std.specs.Prelude.{◌≡◌, ℕ, ◌≤◌, ◌<◌, ◌+◌, ◌*◌, ◌/◌, ◌%◌, ◌^◌, ◌↔◌, length, take, drop, IsSome, IfSome};
+ghost use Rattle.std.specs.Prelude.{◌≡◌, ℕ, ◌≤◌, ◌<◌, ◌+◌, ◌*◌, ◌/◌, ◌%◌, ◌^◌, ◌↔◌, length, take, drop, IsSome, IfSome, IfOk, IfErr, Err, IsAscii, string_bytes};
 ghost use Rattle.base64_alphabet.specs.Encoding.{encoding_of};
+ghost use Rattle.base64ct.specs.Canonical.{IsEncodeStringError};
 ghost use Rattle.base64ct.specs.Counts.{encoded_len, encode_count};
 
+use crate::errors::Error;
 use base64_alphabet::{Alphabet, Steps, encode_blocks};
-use std::sync::ledger::Ledger;
+use std::alloc::Global;
+use std::marker::Brand;
+use std::sync::ledger::{Blank, Ledger};
 
 /// Writes the encoding to the front of an output, and answers its length.
 pub(crate) fn encode_into<E: Alphabet, L: Ledger>(
@@ -24,6 +28,41 @@ pub(crate) fn encode_into<E: Alphabet, L: Ledger>(
     let (rest, len) = encode_rest::<E, L>(&src[3 * groups..], steps);
     dst[4 * groups..4 * groups + len].copy_from_slice(&rest[..len]);
     4 * groups + len
+}
+
+/// Encodes bytes into a text.
+pub(crate) fn encode_to_string<E: Alphabet>(alloc: Global, input: &[u8]) -> Result<String, Error>
+    ensures ok { IfOk result (λ text. string_bytes text ≡ encoding_of E.end E.table E.PADDED input.now) }
+    ensures err { IfErr result (IsEncodeStringError (length input.now)) }
+    ensures too_long { (result ≡ Err Error.InvalidLength) ↔ (2 ^ 64 ≤ 4 * length input.now) }
+{
+    let Some(len) = encoded_length(input.len(), E::PADDED) else {
+        return Err(Error::InvalidLength);
+    };
+    let mut text = vec![in alloc; 0u8; len]?;
+    encode_plain::<E, Brand>(input, &mut text, Blank::new(1));
+    Ok(ascii_string(text))
+}
+
+// Writes the encoding to an output of its length.
+fn encode_plain<E: Alphabet, L: Ledger>(src: &[u8], dst: &mut [u8], blank: Blank)
+    requires name { blank.name ≡ L.name }
+    requires parts { blank.parts ≡ L.parts }
+    requires share { 0 < blank.parts }
+    requires room { length dst.old ≡ encoded_len E.PADDED (length src.now) }
+    ensures text { dst.new ≡ encoding_of E.end E.table E.PADDED src.now }
+    ensures ascii { IsAscii dst.new }
+{
+    let mut steps = Steps::<L>::new(blank);
+    encode_into::<E, L>(src, dst, &mut steps);
+}
+
+// ASCII bytes as a text.
+fn ascii_string(bytes: Vec<u8>) -> String
+    requires { IsAscii bytes.items }
+    ensures { string_bytes result ≡ bytes.items }
+{
+    unsafe { String::from_utf8_unchecked(bytes) }
 }
 
 // The encoding of up to two bytes, and its length.

@@ -9,6 +9,8 @@ mod encoding;
 mod errors;
 mod last_block;
 mod lines;
+#[cfg(test)]
+mod tests;
 
 pub use crate::decoder::Decoder;
 pub use crate::encoding::Encoding;

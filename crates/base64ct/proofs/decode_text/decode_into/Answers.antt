@@ -1,12 +1,14 @@
-use Rattle.std.proofs.Common.{rules, ◌≡◌, ℕ, ◌≤◌, ◌<◌, ◌+◌, ◌*◌, ◌/◌, ◌%◌, ◌-◌, length, take, drop, true, false, sym, ◌∙◌, refl, arith, ap, inr, Bool, List, slice_range}
+use Rattle.std.proofs.Common.{rules, ◌≡◌, ℕ, ◌≤◌, ◌<◌, ◌+◌, ◌*◌, ◌/◌, ◌-◌, length, take, drop, true, sym, ◌∙◌, refl, arith, ap, inr, slice_range}
 use Rattle.std.proofs.lemmas.Bool.{eqb-true, eqb-false}
 use Rattle.std.proofs.lemmas.List.{length-take-le}
 use Rattle.std.proofs.lemmas.Grind.{common_steps}
 use Rattle.base64_alphabet.specs.Encoding.{encoding_of}
 use Rattle.base64_alphabet.specs.Table.{all_in}
-use Rattle.base64ct.specs.Canonical.{HasWholeBlocks, IsDecodeError, IsNoEncoding, decoded_len, unpadded_len}
+use Rattle.base64ct.specs.Canonical.{HasWholeBlocks, decoded_len, unpadded_len}
 use Rattle.base64_alphabet.proofs.TableLemmas.{facts}
 use Rattle.base64ct.proofs.WholeLemmas.{empty_text, none_by_rest, none_by_front, whole_text, written_text, has_room}
+use Rattle.std.proofs.lemmas.List.Elements.{All-take}
+use Rattle.base64ct.proofs.DecoderLemmas.{one_value, empty_value, no_text}
 use Rattle.base64ct.proofs.decode_text.decode_into.Goals as goal
 
 pub returns-then-is_empty-clause-ok : goal.returns-then-is_empty-clause-ok
@@ -67,3 +69,15 @@ returns-clause-ok g c =
     (c.decode_front.ensures.written good) c.copy_from_slice.ensures.after len in
     whole_text g.E.Alphabet.end g.E.Alphabet.table g.E.Alphabet.PADDED c.args.src.now (take k c.decode_last.new.out) q f le good rest
     ∙ ap (encoding_of g.E.Alphabet.end g.E.Alphabet.table g.E.Alphabet.PADDED) (sym written)
+
+pub returns-clause-bytes : goal.returns-clause-bytes
+returns-clause-bytes g c = All-take (λ x. x < 256) _ _ c.known.ensures
+
+pub returns-clause-value : goal.returns-clause-value
+returns-clause-value g c b bytes text =
+    one_value g.E.Alphabet.end g.E.Alphabet.table g.E.Alphabet.PADDED c.args.src.now _ b (facts g.E.Alphabet.table g.met.E.Alphabet.lawful)
+    (All-take (λ x. x < 256) _ _ c.known.ensures) bytes (returns-clause-ok g c) text
+
+pub returns-then-is_empty-clause-value : goal.returns-then-is_empty-clause-value
+returns-then-is_empty-clause-value g c b bytes text =
+    sym (empty_value g.E.Alphabet.end g.E.Alphabet.table g.E.Alphabet.PADDED b (sym text ∙ no_text c.args.src.now (eqb-true _ _ (sym c.is_empty.ensures ∙ c.if-is_empty.true))))

@@ -1,7 +1,6 @@
-use Rattle.std.proofs.Common.{◌≡◌, ℕ, ◌+◌, ◌-◌, ◌*◌, ◌/◌, ◌<◌, ◌≤◌, ◌&&◌, true, false, arith, rules, sym, ◌∙◌, ap, length, take, drop, List, []}
+use Rattle.std.proofs.Common.{◌≡◌, ℕ, ◌<◌, ◌&&◌, true, false, arith, sym, ◌∙◌, ap, length, take, drop, List}
 use Rattle.std.proofs.lemmas.Bool.{eqb-false, both_ways}
 use Rattle.std.proofs.lemmas.List.{length-take-le}
-use Rattle.std.proofs.lemmas.Grind.{common_steps}
 use Rattle.base64_alphabet.specs.Encoding.{encoding_of}
 use Rattle.base64_alphabet.proofs.TableLemmas.{facts}
 use Rattle.base64ct.specs.Canonical.{IsBytes}

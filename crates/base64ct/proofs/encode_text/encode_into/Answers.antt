@@ -1,4 +1,4 @@
-use Rattle.std.proofs.Common.{◌≡◌, ℕ, ◌+◌, ◌-◌, ap, length-drop, ◌*◌, ◌/◌, ◌≤◌, List, length, take, drop, arith, refl, slice_range, sym, ◌∙◌, rules}
+use Rattle.std.proofs.Common.{◌≡◌, ℕ, ◌+◌, ◌-◌, ap, length-drop, ◌*◌, ◌/◌, ◌≤◌, List, length, take, drop, arith, refl, slice_range, sym, ◌∙◌}
 use Rattle.std.proofs.lemmas.Grind.{common_steps}
 use Rattle.std.proofs.lemmas.List.{length-take-le}
 use Rattle.base64_alphabet.specs.Encoding.{encoding_of}

@@ -1,4 +1,4 @@
-use Rattle.std.proofs.Common.{rules, ◌≡◌, ℕ, true, false, sym, ◌∙◌, refl, arith}
+use Rattle.std.proofs.Common.{◌≡◌, true, false, sym, ◌∙◌, arith}
 use Rattle.base64ct.proofs.LastLemmas.{one_text, two_text}
 use Rattle.base64ct.proofs.EncodingLemmas.{none_text}
 use Rattle.base64ct.proofs.encode_text.encode_rest.Goals as goal

@@ -1,4 +1,4 @@
-use Rattle.std.proofs.Common.{rules, ◌≡◌, ℕ, true, false, sym, ◌∙◌, refl, arith, List, ap, length, take, ◌+◌, ◌*◌, ◌/◌}
+use Rattle.std.proofs.Common.{◌≡◌, true, sym, ◌∙◌, refl, arith, ap, length, take, ◌+◌, ◌*◌, ◌/◌}
 use Rattle.base64_alphabet.proofs.TableLemmas.{facts}
 use Rattle.std.proofs.Common.{pos, of_z, if◌then◌else◌}
 use Rattle.std.proofs.lemmas.Bool.{both_ways}

@@ -1,6 +1,6 @@
-use Rattle.std.proofs.Common.{◌≡◌, ℕ, ◌+◌, ◌-◌, ◌==◌, ◌&&◌, ◌++◌, ◌∷◌, [], Bool, false, arith, drop, take, rules, ap, sym, ◌∙◌, refl, add-one}
+use Rattle.std.proofs.Common.{◌≡◌, ◌-◌, ◌==◌, ◌&&◌, ◌∷◌, false, drop, take, refl, add-one}
 use Rattle.std.proofs.lemmas.Bool.{and_right, ne_eqb}
-use Rattle.base64ct.specs.Walk.{IsTail, has_endings_from, joined_from}
+use Rattle.base64ct.specs.Walk.{joined_from}
 use Rattle.base64ct.proofs.TailLemmas.{next_char}
 use Rattle.base64ct.proofs.lines.step.Goals as goal
 use Rattle.base64ct.proofs.lines.step.Goals.{else-walk-via-then-walk+else-c-eq10, else-walk-via-else-walk}

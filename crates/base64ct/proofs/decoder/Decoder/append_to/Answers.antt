@@ -1,6 +1,5 @@
-use Rattle.std.proofs.Common.{◌≡◌, ℕ, ◌+◌, ◌-◌, ◌<◌, ◌≤◌, ◌++◌, ◌^◌, List, [], length, map, Some, None, take, drop, vec_len, true, false, arith, rules, refl, sym, ◌∙◌, ap, subst, Option, Contains, length-drop, length-append, replicate}
-use Rattle.std.proofs.lemmas.Grind.{common_steps}
-use Rattle.std.proofs.lemmas.List.{drop_all, take_at, length-take-le}
+use Rattle.std.proofs.Common.{◌≡◌, ℕ, ◌-◌, ◌++◌, List, [], length, None, take, drop, vec_len, false, arith, refl, sym, ◌∙◌, ap, subst, Option, Contains, length-drop, length-append, replicate}
+use Rattle.std.proofs.lemmas.List.{drop_all, length-take-le}
 use borrow.Rule.Slice.PartMut.{post_of}
 use Rattle.base64ct.specs.Lines.{joined}
 use Rattle.base64ct.specs.Items.{items, IsCanonicalEnd}

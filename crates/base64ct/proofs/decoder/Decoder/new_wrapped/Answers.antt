@@ -1,4 +1,4 @@
-use Rattle.std.proofs.Common.{◌≡◌, ℕ, ◌<◌, ◌≤◌, List, length, map, Some, arith}
+use Rattle.std.proofs.Common.{◌<◌, ◌≤◌, length, arith}
 use Rattle.base64_alphabet.proofs.TableLemmas.{facts}
 use Rattle.base64ct.specs.Lines.{joined}
 use Rattle.base64ct.proofs.DecoderLemmas.{canonical_end, some_joined, of_bytes, bytes_of_lines, no_wrap_error, no_wrapped_bytes}
