@@ -15,12 +15,16 @@ use Rattle.identity_source.specs.declared.error.UpdateError.TheVariants.{NotBuil
 abbrev pub fingerprint_of : List ℕ → List ℕ
 fingerprint_of document = encoding_of High standard true (sha256 document)
 
+-- the lines of a report: a revision, an identity with its algorithm and fingerprint, and a bundle without keys
+abbrev pub report_lines : ℕ → List ℕ → List ℕ → List ℕ → List ℕ → List ℕ
+report_lines revision id oid fingerprint domain =
+    codes "revision " ++ (decimal revision
+    ++ (codes "\nidentity " ++ (id ++ (codes " " ++ (oid ++ (codes " " ++ (fingerprint
+    ++ (codes "\nbundle " ++ (domain ++ codes " 0\n")))))))))
+
 -- the report of an update that is published as this revision
 abbrev pub report_of : ℕ → Shown → List ℕ
-report_of revision u =
-    codes "revision " ++ decimal revision
-    ++ codes "\nidentity " ++ u.id ++ codes " " ++ oid_text u.oid ++ codes " " ++ fingerprint_of u.public_document
-    ++ codes "\nbundle " ++ u.domain ++ codes " 0\n"
+report_of revision u = report_lines revision u.id (oid_text u.oid) (fingerprint_of u.public_document) u.domain
 
 -- what a line says of a refused text
 abbrev pub text_refusal : Error → List ℕ
@@ -35,4 +39,4 @@ refusal NotBuilt = codes "not built"
 
 -- the line of a refusal
 abbrev pub refusal_line : UpdateError → List ℕ
-refusal_line error = codes "refused: " ++ refusal error ++ codes "\n"
+refusal_line error = codes "refused: " ++ (refusal error ++ codes "\n")

@@ -35,10 +35,13 @@ returns-clause-plain c =
       oid = c.args.document.now.identity.public_key.oid.now;
       octets = c.args.document.now.identity.private_key.octets.now;
       bits = c.args.document.now.identity.public_key.bits.now;
-    } in
-    (p, record {
-      domain = c.is_domain.ensures.0 c.if-not-is_domain.false;
-      segment = c.is_segment.ensures.0 c.if-not-is_segment.false;
-      oid = c.in-Ok.ensures.content;
-      bits = c.are_bits.ensures.0 c.if-not-are_bits.false;
-    }, cc)
+    } in (
+      p,
+      record {
+        domain = c.is_domain.ensures.0 c.if-not-is_domain.false;
+        segment = c.is_segment.ensures.0 c.if-not-is_segment.false;
+        oid = c.in-Ok.ensures.content;
+        bits = c.are_bits.ensures.0 c.if-not-are_bits.false;
+      },
+      cc,
+    )
