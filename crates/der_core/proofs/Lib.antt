@@ -8,3 +8,4 @@ pub mod Sequences
 pub mod Subidentifiers
 pub mod Identifiers
 pub mod Owned
+pub mod Encoded

@@ -1,5 +1,5 @@
 -- What a reader that goes from field to field knows.
-use Rattle.std.proofs.Common.{◌≡◌, ℕ, ◌<◌, ◌^◌, List, ◌++◌, length, sym, ap, ◌∙◌}
+use Rattle.std.proofs.Common.{◌≡◌, ℕ, ◌<◌, ◌^◌, List, ◌++◌, length, sym, ap, ◌∙◌, [], append-nil}
 use Rattle.der_core.specs.Der.{IsTag, IsValue, encode}
 use Rattle.der_core.specs.Decode.{Front, NoFront, ReadsTagged, ReadsAny}
 use Rattle.der_core.specs.Sequence.{Then}
@@ -34,3 +34,8 @@ field_same H Next fixed s front rest tag content v t' t any is then =
     sym (ap (λ (x : List ℕ). x ++ rest) any.is) ∙ sym is ∙ then.is ∙ ap (λ (x : List ℕ). x ++ then.rest) r.is in
     let same = same_value tag content rest fixed r.content then.rest t fits' t' fits whole in
     record { tag_is = same.tags; has = rw same.contents r.has; next = rw same.rests then.next }
+
+-- Where the whole is one value, nothing follows the value at its front.
+pub one_front : {V : Type 0} (Reads : List ℕ → V → Type 0) (s rest : List ℕ) (v w : V) → ((b : List ℕ) (v : V) → Reads b v → IsValue b) → Front Reads s rest v → Reads s w → rest ≡ []
+one_front Reads s rest v w law f r =
+    (values_unique f.front rest s [] (law f.front v f.reads) (law s w r) (sym f.is ∙ sym (append-nil s))).1

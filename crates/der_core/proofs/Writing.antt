@@ -3,8 +3,9 @@ use Rattle.std.proofs.Common.{◌≡◌, ℕ, ◌+◌, ◌^◌, ◌<◌, ◌≤�
 use Rattle.std.specs.Prelude.{MatchResult}
 use Rattle.der_core.specs.declared.error.Error.{Error}
 use Rattle.der_core.specs.declared.error.Error.TheVariants as error
+use Rattle.identity_io.specs.Causes.{Rose}
 use Rattle.der_core.specs.Der.{length_bytes, encode}
-use Rattle.der_core.specs.Encode.{HasRefused, Wrote, LengthOf}
+use Rattle.der_core.specs.Encode.{Wrote, LengthOf}
 use Rattle.der_core.proofs.Values.{header_length, length_encode, small_fits, encode_parts}
 
 pub too_long : (tag : ℕ) (content : List ℕ) → 4294967290 ≤ length content → 2 ^ 32 ≤ length (encode tag content)
@@ -42,12 +43,12 @@ wrote_more H n old mid new a b (Err e) first count fits w = record {
   ok = tt;
   err = elim w.err [
     | inl long ↦ let l : 2 ^ 32 ≤ length b = long.0 in absurd (omega (arith, length-append a b))
-    | inr refused ↦ inr (fits, elim refused.1 as (λ _. HasRefused (n old) (n new)) [ inl rose ↦ inl (omega arith) | inr at_end ↦ inr at_end ])
+    | inr refused ↦ let rose : Rose (n mid) (n new) = refused.1 in inr (fits, omega arith)
   ];
 }
 
 -- A refusal of a first part is one of the whole.
-pub wrote_refused : {W X : Type 0} (HasTold : W → List ℕ → Type 0) (refusals : W → ℕ) (old new : W) (bytes : List ℕ) (r : Result X Error) (e : Error) → r ≡ Err e → length bytes < 2 ^ 32 → HasRefused (refusals old) (refusals new) → Wrote HasTold refusals old new bytes r
+pub wrote_refused : {W X : Type 0} (HasTold : W → List ℕ → Type 0) (refusals : W → ℕ) (old new : W) (bytes : List ℕ) (r : Result X Error) (e : Error) → r ≡ Err e → length bytes < 2 ^ 32 → Rose (refusals old) (refusals new) → Wrote HasTold refusals old new bytes r
 wrote_refused H n old new bytes r e is fits refused = rw is (record { ok = tt; err = inr (fits, refused) })
 
 pub small_len : (tag : ℕ) (content : List ℕ) (n : ℕ) → n ≡ length content → n < 4294967290 → length (encode tag content) < 2 ^ 32

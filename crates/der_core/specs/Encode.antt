@@ -1,18 +1,15 @@
 -- Writing: what a writer was told, and what a call wrote.
 use Rattle.std.specs.Prelude.{◌≡◌, ℕ, List, ◌++◌, ◌+◌, ◌<◌, ◌≤◌, ◌^◌, ◌⊎◌, length, Result, Ok, Err, OnOk, IfErr, refl}
+use Rattle.identity_io.specs.Causes.{Rose}
 use Rattle.der_core.specs.Der.{IsTag, IsValue, encode}
 use Rattle.std.specs.Prelude.{Vec}
 use Rattle.der_core.specs.declared.error.Error.{Error}
 use Rattle.der_core.specs.declared.error.Error.TheVariants as error
 
--- The count rose, or stands at its end.
-abbrev pub HasRefused : ℕ → ℕ → Type 0
-HasRefused old new = (old < new) ⊎ (new + 1 ≡ 2 ^ 64)
-
 -- The bytes were written whole, or they are too long, or the writer refused.
 pub record Wrote {W X : Type 0} (HasTold : W → List ℕ → Type 0) (refusals : W → ℕ) (old new : W) (bytes : List ℕ) (r : Result X Error) : Type 0 where
   pub ok : OnOk r ((length bytes < 2 ^ 32) × ((m : List ℕ) → HasTold old m → HasTold new (m ++ bytes)))
-  pub err : IfErr r (λ e. ((2 ^ 32 ≤ length bytes) × (e ≡ error.Overlength)) ⊎ ((length bytes < 2 ^ 32) × HasRefused (refusals old) (refusals new)))
+  pub err : IfErr r (λ e. ((2 ^ 32 ≤ length bytes) × (e ≡ error.Overlength)) ⊎ ((length bytes < 2 ^ 32) × Rose (refusals old) (refusals new)))
 
 -- A length, exactly where it is below 2 ^ 32.
 abbrev pub LengthOf : List ℕ → Result ℕ Error → Type 0

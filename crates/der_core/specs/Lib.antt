@@ -7,6 +7,7 @@ pub mod Der
 pub mod Encode
 pub mod Error
 pub mod Header
+pub mod Integer
 pub mod Laws
 pub mod ObjectIdentifier
 pub mod Oid

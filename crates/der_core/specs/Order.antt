@@ -18,6 +18,11 @@ first_then Less next = Some Less
 first_then Equal next = next
 first_then Greater next = Some Greater
 
+-- The same of two orders, of which the first may have none.
+abbrev pub and_then : Option Ordering → Option Ordering → Option Ordering
+and_then None next = None
+and_then (Some order) next = first_then order next
+
 -- By the lengths of two contents, and where they are equally long by the next order.
 abbrev pub after_lengths : List ℕ → List ℕ → Option Ordering → Option Ordering
 after_lengths a b next =

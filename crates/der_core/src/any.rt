@@ -161,8 +161,8 @@ impl<'a> Choice<'a> for AnyRef<'a> {
 
 impl Any {
     ghost use Rattle.std.specs.Prelude.{◌≡◌, ◌<◌, ◌≤◌, ◌^◌, ◌↔◌, [], length, IfOk, IfErr, IsTrue, MatchResult};
-    ghost use Rattle.der_core.specs.Any.{plain_ref, plain_any, ReadsPlain};
-    ghost use Rattle.der_core.specs.Decode.{FromDerOwned};
+    ghost use Rattle.der_core.specs.Any.{plain_ref, plain_any, ReadsPlain, EncodedFrom};
+    ghost use Rattle.der_core.specs.Decode.{FromDerOwned, DecodedAs};
     ghost use Rattle.der_core.specs.Tag.{byte_of};
 
     /// Reads one value of any tag and copies it.
@@ -173,6 +173,15 @@ impl Any {
             Ok(value) => value.ref_to_owned(alloc),
             Err(error) => Err(error),
         }
+    }
+
+    /// The value that another type's value is written as.
+    pub fn encode_from<T: Encode>(alloc: Global, value: &T) -> Result<Any, Error>
+        ensures { EncodedFrom (T.encoding value.now) result }
+    {
+        let bytes = value.to_der(alloc)?;
+        let mut cursor = Cursor::new(&bytes);
+        cursor.read_value()?.ref_to_owned(alloc)
     }
 
     pub fn owned_to_ref(&self) -> AnyRef<'_>
@@ -192,6 +201,13 @@ impl Any {
         ensures { result.now ≡ (plain_any self.now).content }
     {
         &self.value
+    }
+
+    /// Reads the content as a value of a type that has one tag.
+    pub fn decode_as<'a, T: DecodeValue<'a> + FixedTag>(&'a self) -> Result<T, Error>
+        ensures { DecodedAs T.tag T.HasContent (plain_any self.now).tag (plain_any self.now).content result }
+    {
+        self.owned_to_ref().decode_as()
     }
 
     /// Whether it is NULL.

@@ -7,6 +7,7 @@ mod decode;
 mod encode;
 mod error;
 mod header;
+mod integer;
 mod laws;
 mod length;
 mod oid;

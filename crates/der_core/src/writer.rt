@@ -1,6 +1,6 @@
 //! What bytes are written to.
 ghost use Rattle.std.specs.Prelude.{◌≡◌, ◌++◌, ◌≤◌, ℕ, List, [], OnErr, is_ok, if◌then◌else◌};
-ghost use Rattle.der_core.specs.Encode.{HasRefused};
+ghost use Rattle.identity_io.specs.Causes.{Rose};
 
 use crate::Error;
 use std::alloc::Global;
@@ -20,7 +20,7 @@ pub trait Writer {
         ensures told { (m : List ℕ) → HasTold self.old m → HasTold self.new (if is_ok result then m ++ slice.now else m) }
         ensures count { refusals self.old ≤ refusals self.new }
         ensures same_borrow { borrow self.new ≡ borrow self.old }
-        ensures refused { OnErr result (HasRefused (refusals self.old) (refusals self.new)) };
+        ensures refused { OnErr result (Rose (refusals self.old) (refusals self.new)) };
 }
 
 /// A writer that keeps the bytes.
