@@ -9,3 +9,5 @@ pub mod Subidentifiers
 pub mod Identifiers
 pub mod Owned
 pub mod Encoded
+pub mod Decimals
+pub mod Texts

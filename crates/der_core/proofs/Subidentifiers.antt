@@ -293,3 +293,46 @@ some_bytes n =
           let small : n % 128 < 128 = omega arith in
           rw (ap subidentifier_bytes (split_number n), subidentifier_large (n / 128) (n % 128) one small) (omega (arith, length-append (high_bytes (n / 128)) (n % 128 ∷ [])))
     ]
+
+-- The bytes of a subidentifier, by their number.
+high_of : (n : ℕ) → 128 ≤ n → subidentifier_bytes n ≡ high_bytes (n / 128) ++ n % 128 ∷ []
+unfolding subidentifier_bytes
+high_of n h = rw (le-ltb n 128 h) refl
+
+pub spelling_1 : (n : ℕ) → n < 128 → subidentifier_bytes n ≡ n % 128 ∷ []
+spelling_1 n s = subidentifier_small n s ∙ ap (λ (x : ℕ). x ∷ []) (omega arith)
+
+pub spelling_2 : (n : ℕ) → 128 ≤ n → n < 16384 → subidentifier_bytes n ≡ (128 + n / 128 % 128) ∷ n % 128 ∷ []
+spelling_2 n h s =
+    let m : n / 128 < 128 = omega arith in
+    let e : n / 128 ≡ n / 128 % 128 = omega arith in
+    high_of n h ∙ ap (λ (x : List ℕ). x ++ n % 128 ∷ []) (high_bytes_1 (n / 128) m ∙ ap (λ (x : ℕ). (128 + x) ∷ []) e)
+
+pub spelling_3 : (n : ℕ) → 16384 ≤ n → n < 2097152 → subidentifier_bytes n ≡ (128 + n / 16384 % 128) ∷ (128 + n / 128 % 128) ∷ n % 128 ∷ []
+spelling_3 n h s =
+    let a : 128 ≤ n = omega arith in
+    let low : 128 ≤ n / 128 = omega arith in
+    let high : n / 128 < 16384 = omega arith in
+    let e : n / 128 / 128 ≡ n / 16384 % 128 = omega arith in
+    high_of n a ∙ ap (λ (x : List ℕ). x ++ n % 128 ∷ []) (high_bytes_2 (n / 128) low high ∙ ap (λ (x : ℕ). (128 + x) ∷ (128 + n / 128 % 128) ∷ []) e)
+
+pub spelling_4 : (n : ℕ) → 2097152 ≤ n → n < 268435456 → subidentifier_bytes n ≡ (128 + n / 2097152 % 128) ∷ (128 + n / 16384 % 128) ∷ (128 + n / 128 % 128) ∷ n % 128 ∷ []
+spelling_4 n h s =
+    let a : 128 ≤ n = omega arith in
+    let low : 16384 ≤ n / 128 = omega arith in
+    let high : n / 128 < 2097152 = omega arith in
+    let e : n / 128 / 16384 ≡ n / 2097152 % 128 = omega arith in
+    let f : n / 128 / 128 % 128 ≡ n / 16384 % 128 = omega arith in
+    high_of n a ∙ ap (λ (x : List ℕ). x ++ n % 128 ∷ []) (high_bytes_3 (n / 128) low high ∙ ap (λ (x : ℕ). (128 + x) ∷ (128 + n / 128 / 128 % 128) ∷ (128 + n / 128 % 128) ∷ []) e ∙ ap (λ (x : ℕ). (128 + n / 2097152 % 128) ∷ (128 + x) ∷ (128 + n / 128 % 128) ∷ []) f)
+
+pub spelling_5 : (n : ℕ) → 268435456 ≤ n → subidentifier_bytes n ≡ (128 + n / 268435456) ∷ (128 + n / 2097152 % 128) ∷ (128 + n / 16384 % 128) ∷ (128 + n / 128 % 128) ∷ n % 128 ∷ []
+spelling_5 n h =
+    let a : 128 ≤ n = omega arith in
+    let low : 2097152 ≤ n / 128 = omega arith in
+    let e : n / 128 / 2097152 ≡ n / 268435456 = omega arith in
+    let f : n / 128 / 16384 % 128 ≡ n / 2097152 % 128 = omega arith in
+    let g : n / 128 / 128 % 128 ≡ n / 16384 % 128 = omega arith in
+    high_of n a ∙ ap (λ (x : List ℕ). x ++ n % 128 ∷ []) (high_bytes_4 (n / 128) low
+    ∙ ap (λ (x : ℕ). (128 + x) ∷ (128 + n / 128 / 16384 % 128) ∷ (128 + n / 128 / 128 % 128) ∷ (128 + n / 128 % 128) ∷ []) e
+    ∙ ap (λ (x : ℕ). (128 + n / 268435456) ∷ (128 + x) ∷ (128 + n / 128 / 128 % 128) ∷ (128 + n / 128 % 128) ∷ []) f
+    ∙ ap (λ (x : ℕ). (128 + n / 268435456) ∷ (128 + n / 2097152 % 128) ∷ (128 + x) ∷ (128 + n / 128 % 128) ∷ []) g)

@@ -1,5 +1,5 @@
 -- Object identifiers: their bytes, their numbers and their text (X.690, 8.19).
-use Rattle.std.specs.Prelude.{◌≡◌, ℕ, ◌+◌, ◌-◌, ◌*◌, ◌/◌, ◌%◌, ◌^◌, ◌<◌, ◌≤◌, List, [], ◌∷◌, ◌++◌, length, nat_lt, min, map, take, replicate, if◌then◌else◌}
+use Rattle.std.specs.Prelude.{◌≡◌, ℕ, ◌+◌, ◌-◌, ◌*◌, ◌/◌, ◌%◌, ◌^◌, ◌<◌, ◌≤◌, List, [], ◌∷◌, ◌++◌, length, nat_lt, min, map, take, replicate, slice_index, if◌then◌else◌}
 use Rattle.std.specs.List.{All, flat_map, join_with_byte}
 use Rattle.std.specs.Fmt.{decimal}
 
@@ -41,9 +41,15 @@ pub record IsOidContent (bytes : List ℕ) : Type 0 where
   pub numbers : AreSubidentifiers bytes
 
 -- The first subidentifier is 40 times the first arc and the second; the first arc is 0, 1 or 2, and the second is below 40 unless the first is 2.
+abbrev pub first_arc : ℕ → ℕ
+first_arc n = min (n / 40) 2
+
+abbrev pub second_arc : ℕ → ℕ
+second_arc n = n - 40 * first_arc n
+
 abbrev pub with_two_arcs : List ℕ → List ℕ
 with_two_arcs [] = []
-with_two_arcs (n ∷ rest) = min (n / 40) 2 ∷ (n - 40 * min (n / 40) 2) ∷ rest
+with_two_arcs (n ∷ rest) = first_arc n ∷ second_arc n ∷ rest
 
 abbrev pub arcs_of : List ℕ → List ℕ
 arcs_of content = with_two_arcs (subidentifiers content)
@@ -57,3 +63,7 @@ pub record HoldsOid (bytes : List ℕ) (len : ℕ) : Type 0 where
   pub content : IsOidContent (take len bytes)
   pub within : len ≤ 39
   pub padded : bytes ≡ take len bytes ++ replicate (39 - len) 0
+
+-- The bytes begin with no decimal digit.
+pub record EndsDigits (bytes : List ℕ) : Type 0 where
+  pub no_digit : 48 ≤ slice_index bytes 0 → slice_index bytes 0 ≤ 57 → ⊥

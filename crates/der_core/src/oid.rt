@@ -4,6 +4,7 @@ ghost use Rattle.der_core.specs.Oid.{HoldsOid};
 
 mod arcs;
 mod subidentifier;
+mod text;
 
 use crate::{Cursor, DecodeValue, EncodeValue, Error, FixedTag, LawfulValue, Length, Tag, Writer};
 pub use arcs::Arcs;
@@ -11,6 +12,7 @@ use std::cmp::Ordering;
 use std::fmt;
 use std::hash::{Hash, Hasher};
 use subidentifier::are_subidentifiers;
+use text::content_of;
 
 /// An object identifier, by its content bytes (X.690, 8.19).
 #[derive(Clone, Copy, Debug)]
@@ -21,10 +23,25 @@ pub struct ObjectIdentifier {
 }
 
 impl ObjectIdentifier {
-    ghost use Rattle.std.specs.Prelude.{◌≡◌, ◌↔◌, IfOk, IfErr, OnErr, IsTrue};
+    ghost use Rattle.std.specs.Prelude.{◌≡◌, ◌↔◌, ℕ, List, IfOk, IfErr, OnErr, IsTrue};
     ghost use Rattle.der_core.specs.Arcs.{arcs_left};
     ghost use Rattle.der_core.specs.ObjectIdentifier.{oid_content};
-    ghost use Rattle.der_core.specs.Oid.{IsOidContent, arcs_of};
+    ghost use Rattle.der_core.specs.Oid.{IsOidContent, arcs_of, oid_text};
+
+    /// Reads decimal arcs that are joined by dots.
+    pub fn new(text: &str) -> Result<Self, Error>
+        ensures value { IfOk result (λ v. oid_text (oid_content v) ≡ text.now) }
+        ensures malformed { IfErr result (λ e. e ≡ Error.OidMalformed) }
+        ensures none { OnErr result ((content : List ℕ) → IsOidContent content → oid_text content ≡ text.now → ⊥) }
+    {
+        let Some(content) = content_of(text.as_bytes()) else {
+            return Err(Error::OidMalformed);
+        };
+        match ObjectIdentifier::from_bytes(content.as_bytes()) {
+            Ok(oid) => Ok(oid),
+            Err(_) => Err(Error::OidMalformed),
+        }
+    }
 
     /// Takes the content, which is what follows tag and length.
     pub fn from_bytes(bytes: &[u8]) -> Result<Self, Error>
