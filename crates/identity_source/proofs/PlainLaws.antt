@@ -1,5 +1,5 @@
 -- What the fields of a plain update are, and what is no plain update.
-use Rattle.std.proofs.Common.{◌≡◌, ℕ, ◌+◌, ◌<◌, ◌^◌, Bool, true, false, not, nat_eq, nat_lt, codes, lit<, ◌&&◌, List, [], ◌∷◌, ◌++◌, length, drop, All, IfNone, Option, Some, None, refl, ap, sym, ◌∙◌, arith}
+use Rattle.std.proofs.Common.{◌≡◌, ℕ, ◌<◌, ◌^◌, Bool, true, false, not, nat_eq, nat_lt, codes, lit<, List, [], ◌∷◌, ◌++◌, length, drop, IfNone, Option, Some, None, refl, ap, sym, ◌∙◌, arith}
 use Rattle.std.proofs.lemmas.Bool.{and_parts, ltb-true}
 use Rattle.std.proofs.lemmas.Bool.Decides.{nat_tests}
 use Rattle.std.proofs.lemmas.List.{append_cancel_left}

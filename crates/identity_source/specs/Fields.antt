@@ -1,5 +1,5 @@
 -- Reading the fields of a document of one identity and one bundle. That this inverts the spelling of `Document` is proved.
-use Rattle.std.specs.Prelude.{ℕ, ◌==◌, if◌then◌else◌, List, [], ◌∷◌, length, Option, Some, None, option_and_then, option_map}
+use Rattle.std.specs.Prelude.{ℕ, ◌==◌, if◌then◌else◌, List, length, Option, Some, None, option_and_then, option_map}
 use Rattle.der_core.specs.Header.{read_value}
 
 -- a value of this tag: its content, and what follows it

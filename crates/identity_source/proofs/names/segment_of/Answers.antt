@@ -1,4 +1,4 @@
-use Rattle.std.proofs.Common.{◌≡◌, ◌++◌, ◌∷◌, List, ℕ, ap, sym, ◌∙◌, drop}
+use Rattle.std.proofs.Common.{◌≡◌, ◌++◌, ◌∷◌, ap, sym, ◌∙◌, drop}
 use Rattle.std.proofs.lemmas.List.{append_cancel_left}
 use Rattle.identity_source.proofs.names.segment_of.Goals as goal
 

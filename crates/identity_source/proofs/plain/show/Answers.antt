@@ -1,6 +1,5 @@
-use Rattle.std.proofs.Common.{◌≡◌, ◌++◌, ◌∷◌, List, ℕ, Bool, true, false, [], codes, ap, sym, ◌∙◌}
-use Rattle.identity_source.specs.Document.{Fields, IsParts, Parts, fields_of}
-use Rattle.identity_source.specs.Views.{fields_in}
+use Rattle.std.proofs.Common.{◌≡◌, ◌∷◌, true, false, [], codes, ap, sym, ◌∙◌}
+use Rattle.identity_source.specs.Document.{Fields, Parts}
 use Rattle.identity_source.proofs.PlainLaws.{domain_is_text, id_is_text, not_unequal, same_segment}
 use Rattle.identity_source.proofs.plain.show.Goals as goal
 
