@@ -1,5 +1,5 @@
 -- The bytes of a report and of the line of a refusal.
-use Rattle.std.specs.Prelude.{ℕ, List, [], ◌∷◌, ◌++◌, codes, decimal, true}
+use Rattle.std.specs.Prelude.{ℕ, List, ◌++◌, codes, decimal, true}
 use Rattle.sha2.specs.Sha256.{sha256}
 use Rattle.base64_alphabet.specs.Group.{High}
 use Rattle.base64_alphabet.specs.Standard.{standard}

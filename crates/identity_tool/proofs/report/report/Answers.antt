@@ -1,4 +1,4 @@
-use Rattle.std.proofs.Common.{◌≡◌, List, ℕ, sym, ◌∙◌}
+use Rattle.std.proofs.Common.{◌∙◌}
 use Rattle.identity_tool.proofs.Answered.{refused_by, stopped_by}
 use Rattle.identity_tool.proofs.report.report.Goals as goal
 
