@@ -7,8 +7,10 @@ mod decoder;
 mod encode_text;
 mod encoding;
 mod errors;
+mod in_place;
 mod last_block;
 mod lines;
+mod loose;
 #[cfg(test)]
 mod tests;
 
