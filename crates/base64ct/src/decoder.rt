@@ -48,6 +48,8 @@ impl<'i, E: Encoding> Decoder<'i, E> {
     pub fn new_wrapped(input: &'i [u8], line_width: usize) -> Result<Self, Error>
         ensures items { IfOk result (λ d. d ≡ items E.end E.table E.PADDED (joined line_width input.now)) }
         ensures accepted { IfOk result (λ _. IsWrapped E.end E.table E.PADDED line_width input.now) }
+        ensures wide { IfOk result (λ _. 4 ≤ line_width) }
+        ensures some { IfOk result (λ _. 0 < length input.now) }
 
         // The decoder gives the bytes b exactly where the text is lines of their encoding.
         ensures bytes { (b : List ℕ) → 4 ≤ line_width → IsWrappedText E.end E.table E.PADDED line_width input.now b

@@ -9,6 +9,7 @@ mod encoding;
 mod errors;
 mod in_place;
 mod last_block;
+mod line_laws;
 mod lines;
 mod loose;
 #[cfg(test)]
@@ -17,6 +18,7 @@ mod tests;
 pub use crate::decoder::Decoder;
 pub use crate::encoding::Encoding;
 pub use crate::errors::{Error, InvalidEncodingError, InvalidLengthError};
+pub use crate::line_laws::{lines_have_one_join, text_has_one_value};
 pub use base64_alphabet::{
     Alphabet, Base64, Base64ShaCrypt, Base64Unpadded, DecodeStep, EncodeStep, Steps, Unpad,
 };

@@ -1,0 +1,94 @@
+//! A reader over borrowed bytes.
+ghost use Rattle.std.specs.Prelude.{◌≡◌, ◌↔◌, IsTrue, ◌++◌, ◌<◌, ◌^◌, ℕ, List, [], ◌∷◌, length, IfOk, IfErr, OnErr, IfSome, IfNone, option_map};
+ghost use Rattle.der_core.specs.Any.{plain_ref, der_of};
+ghost use Rattle.der_core.specs.Cursor.{NextTag};
+ghost use Rattle.der_core.specs.Der.{IsValue};
+ghost use Rattle.der_core.specs.Header.{read_value};
+
+use crate::header::{first_byte, length_at, tag_at};
+use crate::{AnyRef, Error, Tag};
+use std::marker::Model;
+
+/// A reader over borrowed bytes. Contracts see the bytes that are left.
+#[derive(Drop)]
+pub struct Cursor<'a> {
+    rest: &'a [u8],
+}
+
+impl<'a> Model for Cursor<'a> {
+    ghost use Rattle.std.specs.Prelude.{ℕ, List};
+
+    ghost Value = { List ℕ };
+
+    ghost view = { λ c. c.rest.now };
+}
+
+impl<'a> Cursor<'a> {
+    pub fn new(bytes: &'a [u8]) -> Self
+        ensures { result ≡ bytes.now }
+    {
+        Cursor { rest: bytes }
+    }
+
+    pub fn is_finished(&self) -> bool
+        ensures { IsTrue result ↔ (self.now ≡ []) }
+    {
+        self.rest.is_empty()
+    }
+
+    /// All bytes that are left, which stay there.
+    pub fn rest(&self) -> &'a [u8]
+        ensures { result.now ≡ self.now }
+    {
+        self.rest
+    }
+
+    /// The tag of the next value, which stays there.
+    pub fn peek_tag(&self) -> Option<Tag>
+        ensures { NextTag self.now result }
+    {
+        let (tag, _) = tag_at(self.rest)?;
+        Some(tag)
+    }
+
+    /// Takes one value of any tag, header and content.
+    pub fn read_value(&mut self) -> Result<AnyRef<'a>, Error>
+        ensures value { IfOk result (λ v. self.old ≡ der_of (plain_ref v) ++ self.new) }
+        ensures fits { IfOk result (λ v. length (der_of (plain_ref v)) < 2 ^ 32) }
+        ensures malformed { IfErr result (λ e. e ≡ Error.Malformed) }
+        ensures none { OnErr result ((b rest : List ℕ) → IsValue b → self.old ≡ b ++ rest → ⊥) }
+        ensures kept { OnErr result (self.new ≡ self.old) }
+    {
+        let Some((value, rest)) = any_at(self.rest) else {
+            return Err(Error::Malformed);
+        };
+        self.rest = rest;
+        Ok(value)
+    }
+}
+
+/// The value at the front, and what follows it.
+fn value_at(bytes: &[u8]) -> Option<(AnyRef<'_>, &[u8])>
+    ensures { option_map (λ found. ((plain_ref found.0).tag, (plain_ref found.0).content, found.1.now)) result ≡ read_value bytes.now }
+{
+    let (tag, after) = tag_at(bytes)?;
+    let (length, after) = length_at(after)?;
+    if length >= 4294967290 {
+        return None;
+    }
+    let length = length as usize;
+    if after.len() < length {
+        return None;
+    }
+    let (value, rest) = after.split_at(length);
+    Some((AnyRef::from_parts(tag, value), rest))
+}
+
+/// The value at the front, and what follows it.
+pub(crate) fn any_at(bytes: &[u8]) -> Option<(AnyRef<'_>, &[u8])>
+    ensures found { IfSome result (λ found. bytes.now ≡ der_of (plain_ref found.0) ++ found.1.now) }
+    ensures fits { IfSome result (λ found. length (der_of (plain_ref found.0)) < 2 ^ 32) }
+    ensures none { IfNone result ((b rest : List ℕ) → IsValue b → bytes.now ≡ b ++ rest → ⊥) }
+{
+    value_at(bytes)
+}

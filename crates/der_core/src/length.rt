@@ -1,0 +1,34 @@
+//! Lengths.
+use std::marker::Model;
+
+/// How many bytes a content or an encoding has.
+#[derive(Clone, Copy, Debug, PartialEq, Eq, PartialOrd, Ord, Hash)]
+pub struct Length {
+    number: u32,
+}
+
+impl Model for Length {
+    ghost use Rattle.std.specs.Prelude.{ℕ};
+
+    ghost Value = { ℕ };
+
+    ghost view = { λ length. length.number };
+
+    ghost inverse = { λ n. record { number = n } };
+}
+
+impl Length {
+    ghost use Rattle.std.specs.Prelude.{◌≡◌};
+
+    pub const fn new(n: u32) -> Length
+        ensures { result ≡ n }
+    {
+        Length { number: n }
+    }
+
+    pub const fn get(&self) -> u32
+        ensures { result ≡ self.now }
+    {
+        self.number
+    }
+}

@@ -1,0 +1,64 @@
+//! What bytes are written to.
+ghost use Rattle.std.specs.Prelude.{◌≡◌, ◌++◌, ◌≤◌, ℕ, List, [], OnErr, is_ok, if◌then◌else◌};
+ghost use Rattle.identity_io.specs.Causes.{Rose};
+
+use crate::Error;
+use std::alloc::Global;
+
+/// What bytes are written to.
+pub trait Writer {
+    // Holds of a writer and the bytes that it was given. It never holds of one that does not tell.
+    ghost HasTold: { Self → List ℕ → Type 0 };
+
+    // How often it refused.
+    ghost refusals: { Self → ℕ };
+
+    // The borrow that it writes through, where it has one.
+    ghost borrow: { Self → ℕ } = { λ _. 0 };
+
+    fn write(&mut self, slice: &[u8]) -> Result<(), Error>
+        ensures told { (m : List ℕ) → HasTold self.old m → HasTold self.new (if is_ok result then m ++ slice.now else m) }
+        ensures count { refusals self.old ≤ refusals self.new }
+        ensures same_borrow { borrow self.new ≡ borrow self.old }
+        ensures refused { OnErr result (Rose (refusals self.old) (refusals self.new)) };
+}
+
+/// A writer that keeps the bytes.
+#[derive(Drop)]
+pub(crate) struct VecWriter {
+    bytes: Vec<u8>,
+    refusals: u64,
+}
+
+impl VecWriter {
+    pub(crate) fn new(alloc: Global) -> Self
+        ensures { result.bytes.items ≡ [] }
+    {
+        VecWriter {
+            bytes: Vec::new(alloc),
+            refusals: 0,
+        }
+    }
+
+    pub(crate) fn into_vec(self) -> Vec<u8>
+        ensures { result ≡ self.bytes }
+    {
+        self.bytes
+    }
+}
+
+impl Writer for VecWriter {
+    ghost HasTold = { λ w m. w.bytes.items ≡ m };
+
+    ghost refusals = { λ w. w.refusals };
+
+    fn write(&mut self, slice: &[u8]) -> Result<(), Error> {
+        if self.bytes.extend_from_slice(slice).is_ok() {
+            return Ok(());
+        }
+        if self.refusals < u64::MAX {
+            self.refusals += 1;
+        }
+        Err(Error::OutOfMemory)
+    }
+}

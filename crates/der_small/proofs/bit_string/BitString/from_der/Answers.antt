@@ -1,0 +1,17 @@
+-- What the borrowed form reads.
+use Rattle.std.proofs.Common.{◌≡◌, ◌<◌, ◌^◌, ◌∷◌, List, ℕ, length, sym}
+use Rattle.der_core.specs.Decode.{ReadsTagged}
+use Rattle.der_core.proofs.Owned.{same_tagged, owned_refusal}
+use Rattle.der_small.specs.Bits.{PlainBits, BitsContent}
+use Rattle.der_small.specs.BitString.{plain_bits_ref, plain_bits}
+use Rattle.der_small.specs.declared.bit_string.BitStringRef.{BitStringRef}
+use Rattle.der_small.proofs.bit_string.BitString.from_der.Goals as goal
+
+pub returns-in-Err : goal.returns-in-Err
+returns-in-Err c =
+    let Has : List ℕ → BitStringRef → Type 0 = λ b v. b ≡ v.unused_bits ∷ v.raw.now in
+    let same = same_tagged 3 Has BitsContent plain_bits_ref
+    (λ b v h. record { bits = v.are_bits; is = h })
+    (λ b p h fits. record { unused_bits = p.unused_bits; raw = record c.args.bytes { now = p.octets }; are_bits = h.bits })
+    (λ b p h fits. h.is) in
+    owned_refusal (ReadsTagged 3 Has) (ReadsTagged 3 BitsContent) plain_bits c.args.bytes.now c.in-Err.error same c.in-Err.ensures

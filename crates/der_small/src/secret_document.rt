@@ -1,0 +1,75 @@
+//! Documents of one value whose bytes are not shown.
+ghost use Rattle.std.specs.Prelude.{ℕ};
+ghost use Rattle.der_core.specs.Der.{IsValue};
+
+use der_core::{AnyRef, Decode, Encode, Error};
+use std::alloc::Global;
+use std::fmt;
+
+/// The bytes of exactly one value of any tag, such as a private key, which `Debug` does not show.
+#[derive(Drop, PartialEq, Eq, PartialOrd, Ord, Hash)]
+pub struct SecretDocument {
+    bytes: Vec<u8>,
+    ghost one: { ∥ IsValue bytes.items ∥₁ },
+}
+
+impl SecretDocument {
+    ghost use Rattle.std.specs.Prelude.{◌≡◌, length};
+    ghost use Rattle.der_core.specs.Decode.{FromDer, FromDerOwned};
+    ghost use Rattle.der_small.specs.SecretDocument.{secret_bytes};
+    ghost use Rattle.der_small.specs.OneValue.{IsOneValue, EncodedAs};
+
+    /// Copies the bytes, where they are one value.
+    pub fn from_der(alloc: Global, bytes: &[u8]) -> Result<SecretDocument, Error>
+        ensures { FromDerOwned secret_bytes IsOneValue bytes.now result }
+    {
+        match AnyRef::from_der(bytes) {
+            Ok(_) => match Vec::from_slice(alloc, bytes) {
+                Ok(bytes) => Ok(SecretDocument { bytes }),
+                Err(_) => Err(Error::OutOfMemory),
+            },
+            Err(error) => Err(error),
+        }
+    }
+
+    pub fn as_bytes(&self) -> &[u8]
+        ensures { result.now ≡ secret_bytes self.now }
+    {
+        &self.bytes
+    }
+
+    /// How many bytes it has, header included.
+    pub fn len(&self) -> usize
+        ensures { result ≡ length (secret_bytes self.now) }
+    {
+        self.bytes.len()
+    }
+
+    /// Reads the bytes as a value of another type.
+    pub fn decode_msg<'a, T: Decode<'a>>(&'a self) -> Result<T, Error>
+        ensures { FromDer T.Reads (secret_bytes self.now) result }
+    {
+        T::from_der(&self.bytes)
+    }
+
+    /// The document that a value is written as.
+    pub fn encode_msg<T: Encode>(alloc: Global, value: &T) -> Result<SecretDocument, Error>
+        ensures { EncodedAs secret_bytes (T.encoding value.now) result }
+    {
+        let bytes = value.to_der(alloc)?;
+        Ok(SecretDocument { bytes })
+    }
+}
+
+impl fmt::Debug for SecretDocument {
+    ghost use Rattle.std.specs.Prelude.{Some, length};
+    ghost use Rattle.der_small.specs.SecretDocument.{secret_bytes, secret_debug};
+
+    // It depends on the length alone.
+    ghost debug_output = { λ v. Some (secret_debug (length (secret_bytes v))) };
+
+    fn fmt<W: fmt::Write>(&self, f: &mut fmt::Formatter<W>) -> fmt::Result {
+        let len = self.bytes.len();
+        write!(f, "SecretDocument {{ len: {len} }}")
+    }
+}

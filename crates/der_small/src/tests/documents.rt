@@ -1,0 +1,73 @@
+use crate::{Document, Error, ObjectIdentifier, SecretDocument, Tag};
+use std::test::Fail;
+
+#[test]
+fn documents_of_one_value(rt: HostRuntime) -> Result<(), Fail> {
+    let null = Document::from_der(rt.alloc(), &[5, 0])?;
+    assert_eq!(rt; null.as_bytes(), [5, 0].as_slice());
+    assert_eq!(rt; null.len(), 2);
+    assert_eq!(rt;
+        Document::from_der(rt.alloc(), &[5, 0, 0]).err(),
+        Some(Error::TrailingData {
+            decoded: 2,
+            remaining: 1
+        })
+    );
+    assert_eq!(rt;
+        Document::from_der(rt.alloc(), &[0x30]).err(),
+        Some(Error::Malformed)
+    );
+    let ed25519 = ObjectIdentifier::new("1.3.101.112")?;
+    let document = Document::encode_msg(rt.alloc(), &ed25519)?;
+    assert_eq!(rt; document.as_bytes(), [6, 3, 0x2b, 0x65, 0x70].as_slice());
+    assert_eq!(rt; document.decode_msg::<ObjectIdentifier>()?, ed25519);
+    assert!(rt; null < document);
+    let secret = SecretDocument::encode_msg(rt.alloc(), &ed25519)?;
+    assert_eq!(rt; secret.as_bytes(), document.as_bytes());
+    assert_eq!(rt; secret.len(), 5);
+    assert_eq!(rt; secret.decode_msg::<ObjectIdentifier>()?, ed25519);
+    assert_eq!(rt;
+        secret,
+        SecretDocument::from_der(rt.alloc(), document.as_bytes())?
+    );
+    let shown = format!(in rt.alloc(); "{secret:?}")?;
+    assert_eq!(rt; shown.as_str(), "SecretDocument { len: 5 }");
+    Ok(())
+}
+
+#[test]
+fn texts_of_errors(rt: HostRuntime) -> Result<(), Fail> {
+    let (Some(expected), Some(actual)) = (Tag::new(Tag::OID), Tag::new(0xaf)) else {
+        return Err(Fail::new("no tags"));
+    };
+    let rows = [
+        (Error::Malformed, "malformed"),
+        (
+            Error::TrailingData {
+                decoded: 153,
+                remaining: 1,
+            },
+            "trailing data: decoded 153, remaining 1",
+        ),
+        (
+            Error::TagUnexpected { expected, actual },
+            "unexpected tag: expected 06, actual AF",
+        ),
+        (Error::Overlength, "length too large"),
+        (Error::OidMalformed, "malformed OID"),
+        (
+            Error::OidUnknown {
+                oid: ObjectIdentifier::new("1.2.3")?,
+            },
+            "unknown OID: 1.2.3",
+        ),
+        (Error::FileMissing, "file missing"),
+        (Error::FileFault, "file fault"),
+        (Error::FileTooLong, "file too long"),
+        (Error::OutOfMemory, "out of memory"),
+    ];
+    for (error, text) in rows {
+        assert_eq!(rt; error.to_string(rt.alloc())?.as_str(), text);
+    }
+    Ok(())
+}

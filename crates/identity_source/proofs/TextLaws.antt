@@ -1,0 +1,31 @@
+-- What a refused text is refused for.
+use Rattle.std.proofs.Common.{◌≡◌, ℕ, ◌+◌, ◌<◌, ◌≤◌, ◌^◌, ◌⊎◌, true, List, [], length, map, Option, Some, Result, Ok, Err, IfErr, IsErrAnd, refl, arith, inl, inr}
+use Rattle.identity_source.specs.declared.error.UpdateError.{UpdateError}
+use Rattle.base64_alphabet.specs.Group.{High}
+use Rattle.base64_alphabet.specs.Standard.{standard}
+use Rattle.base64ct.specs.Items.{IsAppendError, IsWrapError}
+use Rattle.base64ct.specs.declared.errors.Error.{Error}
+use Rattle.base64ct.specs.declared.errors.Error.TheVariants as base64
+use Rattle.identity_source.specs.Reading.{HasLength, IsTextRefusal, Writes}
+use Rattle.identity_source.specs.UpdateError.{text_error}
+
+-- why a decoder can't be made of the text
+pub wrap_refused : (width : ℕ) (text : List ℕ) (e : Error) → IsWrapError High standard true width text e
+    → (e ≡ base64.InvalidEncoding → (b : List ℕ) → Writes width text b → ⊥) → IsTextRefusal width text (text_error e)
+wrap_refused width text base64.InvalidLength err none = λ has. elim err [ inl short ↦ omega arith | inr empty ↦ omega arith ]
+wrap_refused width text base64.InvalidEncoding err none = ((err.0, err.1), none refl)
+wrap_refused width text base64.OutOfMemory err none = absurd err
+
+-- why its bytes can't be had
+pub append_refused : (width : ℕ) (text : List ℕ) (left : List (Option ℕ)) (n : ℕ) (e : Error) → HasLength width text → length left + n < 2 ^ 64
+    → ((b : List ℕ) → Writes width text b → left ≡ map Some b) → IsAppendError left n e
+    → (e ≡ base64.InvalidEncoding → (b : List ℕ) → left ≡ map Some b → ⊥) → IsTextRefusal width text (text_error e)
+append_refused width text left n base64.InvalidLength has small all err none = absurd (omega arith)
+append_refused width text left n base64.InvalidEncoding has small all err none = (has, λ b writes. none refl b (all b writes))
+append_refused width text left n base64.OutOfMemory has small all err none = tt
+
+-- a refusal of the text, passed on
+pub passed_on : {X : Type 0} (width : ℕ) (text : List ℕ) (r : Result X UpdateError) (cause : Error) → IsErrAnd r (λ e. e ≡ text_error cause)
+    → IsTextRefusal width text (text_error cause) → IfErr r (IsTextRefusal width text)
+passed_on width text (Ok x) cause is refused = tt
+passed_on width text (Err e) cause is refused = rw is refused

@@ -1,0 +1,17 @@
+-- Which command the words after the program's name are.
+use Rattle.std.specs.Prelude.{◌≡◌, ℕ, ◌<◌, ◌^◌, List, [], ◌∷◌, String, map, codes, decimal, string_bytes}
+use Rattle.std.specs.Global.{Global}
+use Rattle.identity_tool.specs.declared.words.Command.{Command}
+use Rattle.identity_tool.specs.declared.words.Command.TheVariants.{Show}
+
+-- the bytes of each word
+abbrev pub texts : List (String Global) → List (List ℕ)
+texts words = map string_bytes words
+
+-- the words write this command: its name, and a number below 2^64 in decimal digits without a leading zero
+abbrev pub IsCommand : List (List ℕ) → Command → Type 0
+IsCommand words (Show width) = (words ≡ codes "show" ∷ decimal width ∷ []) × (width < 2 ^ 64)
+
+-- the words are no command
+abbrev pub IsUsage : List (List ℕ) → Type 0
+IsUsage words = (command : Command) → IsCommand words command → ⊥
