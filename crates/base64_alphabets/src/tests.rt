@@ -17,7 +17,7 @@ const STANDARD: &'static [u8; 64] =
 
 const URL: &'static [u8; 64] = b"ABCDEFGHIJKLMNOPQRSTUVWXYZabcdefghijklmnopqrstuvwxyz0123456789-_";
 
-// `itoa64` of OpenBSD's bcrypt, of `crypt(3)`, and the text of passlib's `ab64_encode`.
+// `Base64Code` of OpenBSD's bcrypt, the digits of POSIX `a64l`, and passlib's `ab64`, which has `.` for `+`.
 const BCRYPT: &'static [u8; 64] =
     b"./ABCDEFGHIJKLMNOPQRSTUVWXYZabcdefghijklmnopqrstuvwxyz0123456789";
 
@@ -100,7 +100,7 @@ fn convert_a_group(rt: HostRuntime) {
 }
 
 // What an alphabet offers to generic code, threads included.
-fn any<E: Alphabet + Default + Ord + Hash + Send + Sync>() -> E {
+fn default_of<E: Alphabet + Default + Ord + Hash + Send + Sync>() -> E {
     E::default()
 }
 
@@ -108,35 +108,35 @@ fn any<E: Alphabet + Default + Ord + Hash + Send + Sync>() -> E {
 fn have_their_traits(rt: HostRuntime) -> Result<(), Fail> {
     let alloc = rt.alloc();
     assert_eq!(rt;
-        format!(in alloc; "{:?}", any::<Base64>())?.as_str(),
+        format!(in alloc; "{:?}", default_of::<Base64>())?.as_str(),
         "Base64"
     );
     assert_eq!(rt;
-        format!(in alloc; "{:?}", any::<Base64Unpadded>())?.as_str(),
+        format!(in alloc; "{:?}", default_of::<Base64Unpadded>())?.as_str(),
         "Base64Unpadded"
     );
     assert_eq!(rt;
-        format!(in alloc; "{:?}", any::<Base64Url>())?.as_str(),
+        format!(in alloc; "{:?}", default_of::<Base64Url>())?.as_str(),
         "Base64Url"
     );
     assert_eq!(rt;
-        format!(in alloc; "{:?}", any::<Base64UrlUnpadded>())?.as_str(),
+        format!(in alloc; "{:?}", default_of::<Base64UrlUnpadded>())?.as_str(),
         "Base64UrlUnpadded"
     );
     assert_eq!(rt;
-        format!(in alloc; "{:?}", any::<Base64Bcrypt>())?.as_str(),
+        format!(in alloc; "{:?}", default_of::<Base64Bcrypt>())?.as_str(),
         "Base64Bcrypt"
     );
     assert_eq!(rt;
-        format!(in alloc; "{:?}", any::<Base64Crypt>())?.as_str(),
+        format!(in alloc; "{:?}", default_of::<Base64Crypt>())?.as_str(),
         "Base64Crypt"
     );
     assert_eq!(rt;
-        format!(in alloc; "{:?}", any::<Base64ShaCrypt>())?.as_str(),
+        format!(in alloc; "{:?}", default_of::<Base64ShaCrypt>())?.as_str(),
         "Base64ShaCrypt"
     );
     assert_eq!(rt;
-        format!(in alloc; "{:?}", any::<Base64Pbkdf2>())?.as_str(),
+        format!(in alloc; "{:?}", default_of::<Base64Pbkdf2>())?.as_str(),
         "Base64Pbkdf2"
     );
     Ok(())
