@@ -7,8 +7,8 @@ ghost use Rattle.base64_alphabet.specs.Crypt.{crypt, crypt_decoder, crypt_encode
 
 use base64_alphabet::{Alphabet, DecodeStep, EncodeStep, Unpad, group_high, split_high};
 
-/// `.`, `/`, `0` to `9`, `A` to `Z`, `a` to `z`, without padding. No hash in use is written so: those of
-/// `crypt` are read from the low end, for which `Base64ShaCrypt` stands.
+/// `.`, `/`, `0` to `9`, `A` to `Z`, `a` to `z`, without padding. A group is read with its first byte
+/// highest, as in the old DES form of `crypt`. For its SHA-256 and SHA-512 forms take `Base64ShaCrypt`.
 #[derive(Clone, Copy, Debug, PartialEq, Eq, PartialOrd, Ord, Hash, Default)]
 pub struct Base64Crypt;
 

@@ -7,8 +7,8 @@ ghost use Rattle.base64_alphabets.specs.Pbkdf2.{pbkdf2, pbkdf2_decoder, pbkdf2_e
 
 use base64_alphabet::{Alphabet, DecodeStep, EncodeStep, Unpad, group_high, split_high};
 
-/// The standard alphabet with `.` in place of `+`, without padding, as in the hashes that name their
-/// PBKDF2 in the modular crypt format.
+/// The standard alphabet with `.` in place of `+`, without padding, as in hashes of the modular crypt
+/// format that begin with `$pbkdf2`.
 #[derive(Clone, Copy, Debug, PartialEq, Eq, PartialOrd, Ord, Hash, Default)]
 pub struct Base64Pbkdf2;
 
