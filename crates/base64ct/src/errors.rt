@@ -7,11 +7,11 @@ ghost use Rattle.base64ct.specs.Errors.{error_text, io_kind};
 ghost use Rattle.base64ct.specs.declared.errors.Error.TheVariants.{InvalidEncoding, InvalidLength, OutOfMemory};
 
 use std::alloc::AllocError;
-use std::fmt;
-use std::io;
 use std::str::Utf8Error;
+use std::{fmt, io};
 
 const INVALID_ENCODING_MSG: &str = "invalid Base64 encoding";
+
 const INVALID_LENGTH_MSG: &str = "invalid Base64 length";
 
 /// An output that is too short, or an input that is too long.
