@@ -1,5 +1,5 @@
 use Rattle.base64_alphabet.proofs.TableLemmas.{facts}
-use Rattle.std.proofs.Common.{sym, ◌∙◌}
+use Rattle.std.proofs.Common.{◌∙◌}
 use Rattle.base64ct.proofs.DecoderLemmas.{one_value}
 use Rattle.base64ct.proofs.LinesLemmas.{Lines-unique}
 use Rattle.base64ct.proofs.line_laws.text_has_one_value.Goals as goal
