@@ -4,8 +4,7 @@ use Rattle.sha2.specs.Sha256.{sha256}
 use Rattle.base64_alphabet.specs.Group.{High}
 use Rattle.base64_alphabet.specs.Standard.{standard}
 use Rattle.base64_alphabet.specs.Encoding.{encoding_of}
-use Rattle.base64ct.specs.declared.errors.Error.{Error}
-use Rattle.base64ct.specs.declared.errors.Error.TheVariants as base64
+use Rattle.base64ct.specs.Errors.{error_text}
 use Rattle.der_core.specs.Oid.{oid_text}
 use Rattle.identity_source.specs.Shown.{Shown}
 use Rattle.identity_source.specs.declared.error.UpdateError.{UpdateError}
@@ -26,14 +25,9 @@ report_lines revision id oid fingerprint domain =
 abbrev pub report_of : ℕ → Shown → List ℕ
 report_of revision u = report_lines revision u.id (oid_text u.oid) (fingerprint_of u.public_document) u.domain
 
--- what a line says of a refused text
-abbrev pub text_refusal : Error → List ℕ
-text_refusal base64.InvalidEncoding = codes "invalid Base64 encoding"
-text_refusal base64.InvalidLength = codes "invalid Base64 length"
-text_refusal base64.OutOfMemory = codes "out of memory"
-
+-- what the line of a refusal says
 abbrev pub refusal : UpdateError → List ℕ
-refusal (Text cause) = codes "text: " ++ text_refusal cause
+refusal (Text cause) = codes "text: " ++ error_text cause
 refusal OutOfMemory = codes "out of memory"
 refusal NotBuilt = codes "not built"
 

@@ -2,7 +2,7 @@
 ghost use Rattle.std.specs.Prelude.{◌≡◌, ◌≢◌, ◌++◌, IfOk, codes, decimal, string_bytes};
 ghost use Rattle.der_core.specs.Oid.{oid_text};
 ghost use Rattle.identity_source.specs.PlainParts.{parts_shown};
-ghost use Rattle.identity_tool.specs.Report.{fingerprint_of, refusal_line, report_lines, report_of, text_refusal};
+ghost use Rattle.identity_tool.specs.Report.{fingerprint_of, refusal_line, report_lines, report_of};
 
 use base64ct::{Base64, Encoding, Error};
 use identity_source::{PlainParts, UpdateError};
@@ -42,26 +42,13 @@ fn format_report(
     )
 }
 
-fn text_refusal_of(cause: Error) -> &'static str
-    ensures { result.now ≡ text_refusal cause }
-{
-    match cause {
-        Error::InvalidEncoding => "invalid Base64 encoding",
-        Error::InvalidLength => "invalid Base64 length",
-        Error::OutOfMemory => "out of memory",
-    }
-}
-
 /// The line of a refusal. Want of memory has none, and takes the way of one.
 pub fn refusal_text(alloc: Global, error: UpdateError) -> Result<String, AllocError>
     ensures line { IfOk result (λ text. string_bytes text ≡ refusal_line error) }
     ensures rule { IfOk result (λ _. error ≢ UpdateError.OutOfMemory) }
 {
     match error {
-        UpdateError::Text(cause) => format!(in alloc;
-            "refused: text: {}\n",
-            text_refusal_of(cause)
-        ),
+        UpdateError::Text(cause) => format!(in alloc; "refused: text: {cause}\n"),
         UpdateError::NotBuilt => String::from_str(alloc, "refused: not built\n"),
         UpdateError::OutOfMemory => Err(AllocError),
     }
