@@ -4,5 +4,6 @@ pub mod BitString
 pub mod OctetString
 pub mod Utf8
 pub mod Document
+pub mod Files
 pub mod OneValue
 pub mod SecretDocument

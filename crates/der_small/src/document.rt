@@ -2,7 +2,9 @@
 ghost use Rattle.std.specs.Prelude.{ℕ};
 ghost use Rattle.der_core.specs.Der.{IsValue};
 
+use crate::file::{read_bytes, write_bytes};
 use der_core::{AnyRef, Decode, Encode, Error};
+use identity_io::Disk;
 use std::alloc::Global;
 
 /// The bytes of exactly one value of any tag, such as a public key as it is passed on.
@@ -13,9 +15,12 @@ pub struct Document {
 }
 
 impl Document {
-    ghost use Rattle.std.specs.Prelude.{◌≡◌, length};
+    ghost use Rattle.std.specs.Prelude.{◌≡◌, ◌⊎◌, length, IfErr};
+    ghost use Rattle.std.specs.Option.{ForSome};
+    ghost use Rattle.identity_io.specs.Files.{file_at, Wrote};
     ghost use Rattle.der_core.specs.Decode.{FromDer, FromDerOwned};
     ghost use Rattle.der_small.specs.Document.{document_bytes};
+    ghost use Rattle.der_small.specs.Files.{FileCause, ReadsFile};
     ghost use Rattle.der_small.specs.OneValue.{IsOneValue, EncodedAs};
 
     /// Copies the bytes, where they are one value.
@@ -31,6 +36,7 @@ impl Document {
         }
     }
 
+    /// The whole encoding.
     pub fn as_bytes(&self) -> &[u8]
         ensures { result.now ≡ document_bytes self.now }
     {
@@ -57,5 +63,30 @@ impl Document {
     {
         let bytes = value.to_der(alloc)?;
         Ok(Document { bytes })
+    }
+
+    /// Reads a file of at most 16 MiB that holds exactly one value.
+    pub fn read_der_file<D: Disk>(
+        alloc: Global,
+        disk: &mut D,
+        path: &str,
+    ) -> Result<Document, Error>
+        ensures read { ForSome (D.files disk.old) (λ known. ReadsFile document_bytes (file_at path.now known) result) }
+        ensures kept { D.files disk.new ≡ D.files disk.old }
+        ensures cause { FileCause (D.faults disk.old) (D.faults disk.new) result }
+    {
+        match read_bytes(alloc, disk, path) {
+            Ok(bytes) => Document::from_der(alloc, &bytes),
+            Err(error) => Err(error),
+        }
+    }
+
+    /// Writes the bytes to a file.
+    pub fn write_der_file<D: Disk>(&self, disk: &mut D, path: &str) -> Result<(), Error>
+        ensures wrote { Wrote path.now (document_bytes self.now) (D.files disk.old) (D.files disk.new) result }
+        ensures answers { IfErr result (λ e. (e ≡ Error.FileFault) ⊎ (e ≡ Error.OutOfMemory)) }
+        ensures cause { FileCause (D.faults disk.old) (D.faults disk.new) result }
+    {
+        write_bytes(disk, path, &self.bytes)
     }
 }

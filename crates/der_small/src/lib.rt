@@ -3,6 +3,7 @@
 
 mod bit_string;
 mod document;
+mod file;
 mod octet_string;
 mod secret_document;
 mod utf8;

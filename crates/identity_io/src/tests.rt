@@ -1,6 +1,6 @@
 use crate::{
-    Failed, LIMIT, MemorySink, MemorySource, ReadError, Sink, Source, StdSink, StdSource, SureSink,
-    SureSource, read_all, write_all,
+    Disk, DiskError, Failed, LIMIT, MemoryDisk, MemorySink, MemorySource, ReadError, Sink, Source,
+    StdDisk, StdSink, StdSource, SureSink, SureSource, read_all, write_all,
 };
 use std::alloc::AllocError;
 use std::io;
@@ -107,5 +107,72 @@ fn standard_streams(rt: HostRuntime) -> Result<(), Fail> {
     let mut none = [0u8; 0];
     let mut input = StdSource::new(rt.reader());
     assert_eq!(rt; input.read(&mut none), Ok(0));
+    Ok(())
+}
+
+// A script of four calls: write, read, read of no file, write. Each call in turn fails.
+#[test]
+fn disk_in_memory(rt: HostRuntime) -> Result<(), Fail> {
+    for failing in 0..5u64 {
+        let mut disk = MemoryDisk::new(rt.alloc(), vec![in rt.alloc(); failing]?);
+        let written = disk.write_file("a", b"one").err();
+        let read = disk.read_file(rt.alloc(), "a");
+        let missing = disk.read_file(rt.alloc(), "b").err();
+        let again = disk.write_file("a", b"").err();
+        let failed = Some(DiskError::Failed);
+        let missed = Some(DiskError::Missing);
+        assert_eq!(rt; written, if failing == 0 { failed } else { None });
+        match read {
+            Ok(bytes) => assert_eq!(rt; bytes.as_slice(), b"one".as_slice()),
+            Err(error) => {
+                let expected = if failing == 1 { failed } else { missed };
+                assert!(rt; failing < 2);
+                assert_eq!(rt; Some(error), expected);
+            }
+        }
+        assert_eq!(rt; missing, if failing == 2 { failed } else { missed });
+        assert_eq!(rt; again, if failing == 3 { failed } else { None });
+        if failing == 4 {
+            assert_eq!(rt; disk.read_file(rt.alloc(), "a").err(), failed);
+        }
+        let left = disk.read_file(rt.alloc(), "a")?;
+        assert_eq!(rt;
+            left.len(),
+            if failing == 3 { 3 } else { 0 },
+            "after {failing}"
+        );
+    }
+    Ok(())
+}
+
+#[test]
+fn limit_of_a_file(rt: HostRuntime) -> Result<(), Fail> {
+    let mut disk = MemoryDisk::new(rt.alloc(), Vec::new(rt.alloc()));
+    let longest = sevens(&rt, LIMIT)?;
+    assert_eq!(rt; disk.write_file("long", &longest), Ok(()));
+    assert_eq!(rt; disk.read_file(rt.alloc(), "long")?.len(), LIMIT);
+    let longer = sevens(&rt, LIMIT + 1)?;
+    assert_eq!(rt; disk.write_file("long", &longer), Ok(()));
+    assert_eq!(rt;
+        disk.read_file(rt.alloc(), "long").err(),
+        Some(DiskError::TooLong)
+    );
+    Ok(())
+}
+
+#[test]
+fn real_files(rt: HostRuntime) -> Result<(), Fail> {
+    let mut disk = StdDisk::new(&rt);
+    assert_eq!(rt; disk.write_file("written", b"by the test"), Ok(()));
+    let read = disk.read_file(rt.alloc(), "written")?;
+    assert_eq!(rt; read.as_slice(), b"by the test".as_slice());
+    assert_eq!(rt;
+        disk.read_file(rt.alloc(), "absent").err(),
+        Some(DiskError::Missing)
+    );
+    assert_eq!(rt;
+        disk.write_file("absent/file", b"").err(),
+        Some(DiskError::Failed)
+    );
     Ok(())
 }

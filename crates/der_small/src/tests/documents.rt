@@ -1,4 +1,5 @@
 use crate::{Document, Error, ObjectIdentifier, SecretDocument, Tag};
+use identity_io::{Disk, MemoryDisk};
 use std::test::Fail;
 
 #[test]
@@ -69,5 +70,45 @@ fn texts_of_errors(rt: HostRuntime) -> Result<(), Fail> {
     for (error, text) in rows {
         assert_eq!(rt; error.to_string(rt.alloc())?.as_str(), text);
     }
+    Ok(())
+}
+
+// Calls 0 and 1 write, 2 to 5 read, 6 and 7 fail.
+#[test]
+fn files_of_documents(rt: HostRuntime) -> Result<(), Fail> {
+    let mut disk = MemoryDisk::new(rt.alloc(), vec![in rt.alloc(); 6, 7]?);
+    let null = Document::from_der(rt.alloc(), &[5, 0])?;
+    null.write_der_file(&mut disk, "null")?;
+    assert_eq!(rt; disk.write_file("two", &[5, 0, 0]), Ok(()));
+    assert_eq!(rt;
+        Document::read_der_file(rt.alloc(), &mut disk, "null")?,
+        null
+    );
+    let secret = SecretDocument::read_der_file(rt.alloc(), &mut disk, "null")?;
+    assert_eq!(rt; secret.as_bytes(), [5, 0].as_slice());
+    assert_eq!(rt;
+        Document::read_der_file(rt.alloc(), &mut disk, "two").err(),
+        Some(Error::TrailingData {
+            decoded: 2,
+            remaining: 1
+        })
+    );
+    assert_eq!(rt;
+        SecretDocument::read_der_file(rt.alloc(), &mut disk, "none").err(),
+        Some(Error::FileMissing)
+    );
+    assert_eq!(rt;
+        Document::read_der_file(rt.alloc(), &mut disk, "null").err(),
+        Some(Error::FileFault)
+    );
+    assert_eq!(rt;
+        secret.write_der_file(&mut disk, "null"),
+        Err(Error::FileFault)
+    );
+    secret.write_der_file(&mut disk, "secret")?;
+    assert_eq!(rt;
+        disk.read_file(rt.alloc(), "secret")?.as_slice(),
+        [5, 0].as_slice()
+    );
     Ok(())
 }

@@ -38,30 +38,25 @@ fn lengths_of_every_width(rt: HostRuntime) -> Result<(), Fail> {
 
 #[test]
 fn refused_headers(rt: HostRuntime) -> Result<(), Fail> {
-    let headers: [&[u8]; 15] = [
+    let refused: [&[u8]; 15] = [
         &[],
         &[4],
         &[0x30, 0x84, 0xff, 0xff, 0xff, 0xff],
         &[0x05, 0x81, 0],
         &[0x1f, 0],
         &[0, 0],
-        &[4, 0x80],
-        &[4, 0x81, 0x7f],
-        &[4, 0x82, 0, 0x80],
-        &[4, 0x82, 0, 0xff],
-        &[4, 0x83, 0, 0xff, 0xff],
-        &[4, 0x84, 0, 0xff, 0xff, 0xff],
-        &[4, 0x85, 0, 0, 0, 1, 0],
+        &[4, 0x80, 0, 0],
+        &[4, 0x81, 1, 9],
+        &[4, 0x82, 0, 1, 9],
+        &[4, 0x83, 0, 0, 1, 9],
+        &[4, 0x84, 0, 0, 0, 1, 9],
+        &[4, 0x85, 0, 0, 0, 0, 1, 9],
         &[4, 0xff],
         &[4, 1],
+        &[4, 2, 9],
     ];
-    let mut bytes = zeros(&rt, 16777300)?;
-    for header in headers {
-        assert_eq!(rt; AnyRef::from_der(header), Err(Error::Malformed));
-        bytes[..header.len()].copy_from_slice(header);
-        if header.len() > 3 && header[0] == 4 {
-            assert_eq!(rt; AnyRef::from_der(&bytes), Err(Error::Malformed));
-        }
+    for bytes in refused {
+        assert_eq!(rt; AnyRef::from_der(bytes), Err(Error::Malformed));
     }
     let mut cursor = Cursor::new(&[5, 0, 4, 2, 1]);
     assert_eq!(rt; cursor.peek_tag(), Tag::new(5));
