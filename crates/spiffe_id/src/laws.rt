@@ -32,7 +32,10 @@ pub fn have_same_text(alloc: Global, a: &SpiffeId, b: &SpiffeId) -> Result<bool,
 }
 
 /// Reads the name of a trust domain: it is that trust domain again.
-pub fn reread_trust_domain(alloc: Global, domain: &TrustDomain) -> Result<TrustDomain, SpiffeIdError>
+pub fn reread_trust_domain(
+    alloc: Global,
+    domain: &TrustDomain,
+) -> Result<TrustDomain, SpiffeIdError>
     ensures same { IfOk result (λ d. d ≡ domain.now) }
     ensures memory { IfErr result (λ e. e ≡ SpiffeIdError.OutOfMemory) }
 {
@@ -40,7 +43,10 @@ pub fn reread_trust_domain(alloc: Global, domain: &TrustDomain) -> Result<TrustD
 }
 
 /// Reads the id of a trust domain: it names that trust domain again.
-pub fn reread_trust_domain_id(alloc: Global, domain: &TrustDomain) -> Result<TrustDomain, SpiffeIdError>
+pub fn reread_trust_domain_id(
+    alloc: Global,
+    domain: &TrustDomain,
+) -> Result<TrustDomain, SpiffeIdError>
     ensures same { IfOk result (λ d. d ≡ domain.now) }
     ensures memory { IfErr result (λ e. e ≡ SpiffeIdError.OutOfMemory) }
 {

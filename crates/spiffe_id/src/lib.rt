@@ -8,6 +8,7 @@ mod laws;
 mod path;
 mod scheme;
 mod spiffe_id;
+mod threads;
 mod trust_domain;
 
 pub use constants::{DEFAULT_SVID, SPIFFE_SCHEME, SPIFFE_SCHEME_PREFIX, SPIFFE_SOCKET_ENV};
@@ -17,3 +18,5 @@ pub use scheme::uri_has_spiffe_scheme;
 pub use spiffe_id::SpiffeId;
 pub use trust_domain::TrustDomain;
 
+#[cfg(test)]
+mod tests;

@@ -8,9 +8,10 @@ use Rattle.spiffe_id.proofs.laws.have_same_text.Goals as goal
 
 -- a comparison of two texts of ids tells whether the ids are equal
 tells : (r : Bool) (s t : List ℕ) (v w : Id) → r ≡ bytes_eq s t → s ≡ id_text v → t ≡ id_text w → (id_text v ≡ id_text w → v ≡ w) → IsTrue r ↔ (v ≡ w)
-tells r s t v w is first second law =
-    ( λ yes. law (sym first ∙ (bytes_eq-Decides s t).0 (sym is ∙ yes) ∙ second)
-    , λ same. is ∙ (bytes_eq-Decides s t).1 (first ∙ ap id_text same ∙ sym second) )
+tells r s t v w is first second law = (
+  λ yes. law (sym first ∙ (bytes_eq-Decides s t).0 (sym is ∙ yes) ∙ second),
+  λ same. is ∙ (bytes_eq-Decides s t).1 (first ∙ ap id_text same ∙ sym second),
+)
 
 pub returns-clause-same : goal.returns-clause-same
 returns-clause-same c =
