@@ -1,5 +1,5 @@
 -- A stored map beside its entries.
-use Rattle.std.proofs.Common.{◌≡◌, ℕ, List, [], ◌∷◌, ◌++◌, Bool, ◌&&◌, Option, Some, None, option_map, map, cond, Global, Bor, nat_eq, nat_cmp, is_eq, Ordering, Less, Equal, Greater, refl, ap, ◌∙◌, append_assoc}
+use Rattle.std.proofs.Common.{◌≡◌, ℕ, List, [], ◌∷◌, Bool, ◌&&◌, Option, Some, None, option_map, map, cond, Global, Bor, nat_eq, nat_cmp, is_eq, Ordering, Less, Equal, Greater, refl, ap, ◌∙◌}
 use Rattle.std.specs.declared.sync.Arc.{Arc}
 use Rattle.std.specs.Arc.{arc_value}
 use Rattle.std.specs.Cmp.Lexicographic.{pointwise, slice_cmp}
@@ -9,7 +9,6 @@ use Rattle.std.specs.List.Sorted.{IsStrictlySortedBy}
 use Rattle.std.specs.Ordering.{match_ordering}
 use Rattle.std.specs.BTreeMap.{insert_entry, is_at}
 use Rattle.spiffe_core.specs.Entries.{Entries, with_entry, find_entry, IsAscending, entries_eq, stored_entries}
-use Rattle.spiffe_core.proofs.MapEntries.{goes_last}
 
 behind : {V : Type 0} → (r : Option (Bor (Arc V Global))) → option_map (λ a. arc_value a.now) r ≡ option_map arc_value (option_map (λ a. a.now) r)
 behind None = refl
@@ -72,9 +71,7 @@ module _ {K V : Type 0} (text : K → List ℕ) where
   stored_eq eq (x ∷ xs) [] = refl
   stored_eq eq (x ∷ xs) (y ∷ ys) = ap (λ rest. (pointwise nat_eq (text x.0) (text y.0) && eq (arc_value x.1) (arc_value y.1)) && rest) (stored_eq eq xs ys)
 
-  -- one step of a copy, entry by entry: what is copied and what is left make the whole
-  pub copied_more : (all : Entries V) (copied new rest : Stored K V) (e : K × Arc V Global) (k : K) (v : Arc V Global) → IsAscending all → stored_entries text copied ++ stored_entries text (e ∷ rest) ≡ all
-      → new ≡ insert_entry (order text) copied k v → text k ≡ text e.0 → arc_value v ≡ arc_value e.1 → stored_entries text new ++ stored_entries text rest ≡ all
-  copied_more all copied new rest e k v ascending so_far is key value =
-      let whole : IsAscending (stored_entries text copied ++ (text e.0, arc_value e.1) ∷ stored_entries text rest) = rw so_far ascending in
-      rw (is, stored-insert_entry copied k v, key, value, goes_last (stored_entries text copied) (stored_entries text rest) (text e.0) (arc_value e.1) whole, append_assoc) so_far
+  -- a map after a value went into its stored map
+  pub stored_added : (was : Entries V) (es new : Stored K V) (key : K) (value : Arc V Global) (k : List ℕ) (v : V) → stored_entries text es ≡ was → new ≡ insert_entry (order text) es key value → text key ≡ k → arc_value value ≡ v
+      → stored_entries text new ≡ with_entry was k v
+  stored_added was es new key value k v before is named same = rw (← before, is, stored-insert_entry es key value, named, same)

@@ -2,7 +2,7 @@
 ghost use Rattle.std.specs.Prelude.{◌≡◌, ◌≢◌, ◌↔◌, ℕ, List, [], length, Some, Ok, IfOk, IfErr, OnOk, OnErr, IsTrue, option_map};
 ghost use Rattle.std.specs.Arc.{arc_value};
 ghost use Rattle.std.specs.Cmp.{partial_equiv_from_equiv};
-ghost use Rattle.spiffe_core.specs.Entries.{IsAscending};
+ghost use Rattle.spiffe_core.specs.Entries.{IsAscending, with_entry};
 ghost use Rattle.spiffe_core.specs.JwtBundleSet.{with_bundle, find_bundle, with_bundles, IsPartlyExtended, set_eq, set_equiv};
 
 use crate::bundle_source::BundleSource;
@@ -135,11 +135,25 @@ impl JwtBundleSet {
         ensures ok { IfOk result (λ s. s ≡ self.now) }
         ensures err { IfErr result (λ e. e ≡ JwtBundleError.OutOfMemory) }
     {
-        let mut bundles = BTreeMap::new(alloc);
-        for (domain, bundle) in self.bundles.iter() {
-            bundles.insert(copy_of(domain, alloc)?, Arc::try_clone(bundle)?)?;
+        let mut copy = JwtBundleSet::new(alloc);
+        for (domain, bundle) in self.iter() {
+            copy.add_share(domain, bundle)?;
         }
-        Ok(JwtBundleSet { alloc, bundles })
+        Ok(copy)
+    }
+
+    fn add_share(
+        &mut self,
+        domain: &TrustDomain,
+        bundle: &Arc<JwtBundle>,
+    ) -> Result<(), JwtBundleError>
+        ensures ok { OnOk result (self.new ≡ with_entry self.old domain.now (arc_value bundle.now)) }
+        ensures err { IfErr result (λ e. e ≡ JwtBundleError.OutOfMemory) }
+    {
+        let domain = copy_of(domain, self.alloc)?;
+        let share = Arc::try_clone(bundle)?;
+        self.bundles.insert(domain, share)?;
+        Ok(())
     }
 }
 

@@ -23,3 +23,6 @@ pub use spiffe_id::{
     TrustDomain, uri_has_spiffe_scheme,
 };
 pub use spiffe_json::JsonError;
+
+#[cfg(test)]
+mod tests;
