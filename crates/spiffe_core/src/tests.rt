@@ -127,20 +127,23 @@ fn key_sets(rt: HostRuntime) -> Result<(), Fail> {
     Ok(())
 }
 
+const KEY: &[u8] = b"{\"kty\":\"oct\",\"kid\":\"a\"}";
+
+fn with_one_key(alloc: Global) -> Result<JwtBundle, Fail> {
+    let mut bundle = JwtBundle::new(alloc, TrustDomain::new(alloc, "domain.test")?);
+    bundle.add_jwt_authority(JwtAuthority::from_jwk_json(alloc, KEY)?)?;
+    bundle.add_jwk_authority_json(KEY)?;
+    Ok(bundle)
+}
+
 #[test]
 fn bundles(rt: HostRuntime) -> Result<(), Fail> {
     let alloc = rt.alloc();
-    let json = b"{\"kty\":\"oct\",\"kid\":\"a\"}".as_slice();
-    let domain = TrustDomain::new(alloc, "domain.test")?;
-    let mut bundle = JwtBundle::new(alloc, domain);
-    assert!(rt; bundle.find_jwt_authority("a").is_none());
-    bundle.add_jwt_authority(JwtAuthority::from_jwk_json(alloc, json)?)?;
-    bundle.add_jwk_authority_json(json)?;
-    assert_eq!(rt;
-        bundle_text(alloc, &bundle)?.as_str(),
-        "{\"kid\":\"a\",\"kty\":\"oct\"}"
-    );
+    let bundle = with_one_key(alloc)?;
+    let text = bundle_text(alloc, &bundle)?;
+    assert_eq!(rt; text.as_str(), "{\"kid\":\"a\",\"kty\":\"oct\"}");
     assert_eq!(rt; bundle.trust_domain().as_str(), "domain.test");
+    assert!(rt; bundle.find_jwt_authority("b").is_none());
     let found = bundle.find_jwt_authority("a").ok_or("no authority")?;
     assert_eq!(rt; found.key_id(), "a");
     assert!(rt; found.try_clone(alloc)? == **found);
@@ -148,26 +151,45 @@ fn bundles(rt: HostRuntime) -> Result<(), Fail> {
     Ok(())
 }
 
+fn replaced(alloc: Global) -> Result<JwtBundleSet, Fail> {
+    let mut set = JwtBundleSet::new(alloc);
+    set.add_bundle(bundle_of(alloc, "replace.test", "{\"keys\":[{\"kid\":\"kid-old\"}]}")?)?;
+    set.add_bundle(bundle_of(alloc, "replace.test", "{\"keys\":[{\"kid\":\"kid-new\"}]}")?)?;
+    Ok(set)
+}
+
+fn listed(alloc: Global, last: &str) -> Result<Vec<JwtBundle>, Fail> {
+    let mut bundles = Vec::new(alloc);
+    bundles.push(bundle_of(alloc, "b.test", "{\"keys\":[]}")?)?;
+    bundles.push(bundle_of(alloc, "a.test", "{\"keys\":[{\"kid\":\"k\"}]}")?)?;
+    bundles.push(bundle_of(alloc, last, "{\"keys\":[{\"kid\":\"last\"}]}")?)?;
+    Ok(bundles)
+}
+
 #[test]
 fn sets(rt: HostRuntime) -> Result<(), Fail> {
     let alloc = rt.alloc();
-    let mut set = JwtBundleSet::new(alloc);
-    assert!(rt; set.is_empty());
-    set.add_bundle(bundle_of(alloc, "replace.test", "{\"keys\":[{\"kid\":\"kid-old\"}]}")?)?;
-    set.add_bundle(bundle_of(alloc, "replace.test", "{\"keys\":[{\"kid\":\"kid-new\"}]}")?)?;
+    assert!(rt; JwtBundleSet::new(alloc).is_empty());
+    let mut set = replaced(alloc)?;
     assert_eq!(rt; set.len(), 1);
-    assert_eq!(rt;
-        set_text(alloc, &set)?.as_str(),
-        "replace.test{\"kid\":\"kid-new\"}"
-    );
-    let mut more = Vec::new(alloc);
-    more.push(bundle_of(alloc, "b.test", "{\"keys\":[]}")?)?;
-    more.push(bundle_of(alloc, "a.test", "{\"keys\":[{\"kid\":\"k\"}]}")?)?;
-    set.try_extend(more)?;
-    let text = "a.test{\"kid\":\"k\"}b.testreplace.test{\"kid\":\"kid-new\"}";
-    assert_eq!(rt; set_text(alloc, &set)?.as_str(), text);
-    assert_eq!(rt; set.len(), 3);
+    let text = set_text(alloc, &set)?;
+    assert_eq!(rt; text.as_str(), "replace.test{\"kid\":\"kid-new\"}");
+    set.try_extend(listed(alloc, "c.test")?)?;
+    assert_eq!(rt; set.len(), 4);
     assert!(rt; set.try_clone(alloc)? == set);
+    let text = set_text(alloc, &set)?;
+    let shown =
+        "a.test{\"kid\":\"k\"}b.testc.test{\"kid\":\"last\"}replace.test{\"kid\":\"kid-new\"}";
+    assert_eq!(rt; text.as_str(), shown);
+    Ok(())
+}
+
+#[test]
+fn looking_up(rt: HostRuntime) -> Result<(), Fail> {
+    let alloc = rt.alloc();
+    let set = JwtBundleSet::try_from_bundles(alloc, listed(alloc, "a.test")?)?;
+    let text = set_text(alloc, &set)?;
+    assert_eq!(rt; text.as_str(), "a.test{\"kid\":\"last\"}b.test");
     let a = TrustDomain::new(alloc, "A.test")?;
     let c = TrustDomain::new(alloc, "c.test")?;
     assert!(rt; set.get(&a)?.is_some());
@@ -180,34 +202,17 @@ fn sets(rt: HostRuntime) -> Result<(), Fail> {
 }
 
 #[test]
-fn sets_of_bundles(rt: HostRuntime) -> Result<(), Fail> {
+fn order(rt: HostRuntime) -> Result<(), Fail> {
     let alloc = rt.alloc();
-    let mut listed = Vec::new(alloc);
-    listed.push(bundle_of(alloc, "a.test", "{\"keys\":[{\"kid\":\"old\"}]}")?)?;
-    listed.push(bundle_of(alloc, "b.test", "{\"keys\":[]}")?)?;
-    listed.push(bundle_of(alloc, "a.test", "{\"keys\":[{\"kid\":\"new\"}]}")?)?;
-    let set = JwtBundleSet::try_from_bundles(alloc, listed)?;
-    assert_eq!(rt;
-        set_text(alloc, &set)?.as_str(),
-        "a.test{\"kid\":\"new\"}b.test"
-    );
     let mut ascending = String::new(alloc);
     for n in 100u32..200 {
         let name = format!(in alloc; "d{n}.test")?;
         ascending.push_str(name.as_str())?;
     }
-    assert_eq!(rt;
-        set_text(alloc, &hundred(alloc, 1)?)?.as_str(),
-        ascending.as_str()
-    );
-    assert_eq!(rt;
-        set_text(alloc, &hundred(alloc, 37)?)?.as_str(),
-        ascending.as_str()
-    );
-    assert_eq!(rt;
-        set_text(alloc, &hundred(alloc, 99)?)?.as_str(),
-        ascending.as_str()
-    );
+    for step in [1u32, 37, 99] {
+        let text = set_text(alloc, &hundred(alloc, step % 100)?)?;
+        assert_eq!(rt; text.as_str(), ascending.as_str(), "{step}");
+    }
     Ok(())
 }
 
