@@ -1,5 +1,5 @@
 -- A set of bundles, as the map from trust domains to bundles.
-use Rattle.std.specs.Prelude.{◌≡◌, ◌<◌, ℕ, List, [], length, take, fold, Bool, Option}
+use Rattle.std.specs.Prelude.{◌≡◌, ◌<◌, ℕ, List, length, take, fold, Bool, Option}
 use Rattle.std.specs.declared.alloc.Global.{Global}
 use Rattle.std.specs.declared.sync.Arc.{Arc}
 use Rattle.std.specs.Cmp.{IsEquivalence}

@@ -1,5 +1,5 @@
 -- What a call answers whose text is one that reads as a known value.
-use Rattle.std.proofs.Common.{◌≡◌, ◌⊎◌, inl, inr, Result, Ok, Err, IfOk, IfErr, IsOk, sym, ◌∙◌}
+use Rattle.std.proofs.Common.{◌≡◌, inl, inr, Result, Ok, Err, IfOk, IfErr}
 use Rattle.spiffe_id.specs.declared.error.SpiffeIdError.{SpiffeIdError}
 use Rattle.spiffe_id.specs.declared.error.SpiffeIdError.TheVariants.{OutOfMemory}
 use Rattle.spiffe_id.specs.SpiffeIdError.{IsRefusal}

@@ -1,7 +1,5 @@
 use Rattle.std.proofs.Common.{◌≡◌, ◌↔◌, ◌∙◌, ℕ, List, Bool, IsTrue, bytes_eq, sym, ap}
 use Rattle.std.proofs.lemmas.Slice.Eq.{bytes_eq-Decides}
-use Rattle.spiffe_id.specs.TrustDomain.{IsTrustDomain}
-use Rattle.spiffe_id.specs.Path.{IsPath}
 use Rattle.spiffe_id.specs.SpiffeId.{Id, id_text}
 use Rattle.spiffe_id.proofs.Reading.{same_text-same_id}
 use Rattle.spiffe_id.proofs.laws.have_same_text.Goals as goal

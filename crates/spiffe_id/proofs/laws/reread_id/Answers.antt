@@ -1,4 +1,4 @@
-use Rattle.std.proofs.Common.{◌≡◌, Ok, ◌∙◌}
+use Rattle.std.proofs.Common.{◌≡◌, Ok}
 use Rattle.spiffe_id.specs.SpiffeId.{id_of}
 use Rattle.spiffe_id.proofs.Reading.{id_of-id_text}
 use Rattle.spiffe_id.proofs.Rereading.{reread_value, reread_refusal}

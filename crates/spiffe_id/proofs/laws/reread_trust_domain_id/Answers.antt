@@ -1,4 +1,4 @@
-use Rattle.std.proofs.Common.{◌≡◌, Ok, ◌∙◌}
+use Rattle.std.proofs.Common.{◌≡◌, Ok}
 use Rattle.spiffe_id.specs.TrustDomain.{trust_domain_of}
 use Rattle.spiffe_id.proofs.Reading.{trust_domain_of-id_string}
 use Rattle.spiffe_id.proofs.Rereading.{reread_value, reread_refusal}

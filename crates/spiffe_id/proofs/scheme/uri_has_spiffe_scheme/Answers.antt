@@ -1,4 +1,4 @@
-use Rattle.std.proofs.Common.{sym, ◌∙◌}
+use Rattle.std.proofs.Common.{sym}
 use Rattle.spiffe_id.proofs.SplitFirst.{has_scheme_found, has_scheme_none, scheme_is}
 use Rattle.spiffe_id.proofs.scheme.uri_has_spiffe_scheme.Goals as goal
 

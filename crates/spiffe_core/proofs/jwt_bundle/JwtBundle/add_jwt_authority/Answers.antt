@@ -3,7 +3,7 @@ use Rattle.std.specs.declared.sync.Arc.{Arc}
 use Rattle.std.specs.Arc.{arc_value}
 use Rattle.std.specs.BTreeMap.{insert_entry}
 use Rattle.spiffe_core.specs.JwtAuthority.{Authority}
-use Rattle.spiffe_core.specs.KeySet.{with_authority, find_authority}
+use Rattle.spiffe_core.specs.KeySet.{with_authority}
 use Rattle.spiffe_core.specs.JwtBundle.{Bundle, stored_authorities}
 use Rattle.spiffe_core.proofs.MapEntries.{found_same, found_other}
 use Rattle.spiffe_core.proofs.StoredEntries.{stored-insert_entry}
