@@ -20,7 +20,8 @@ pub use jwt_bundle::JwtBundle;
 pub use jwt_bundle_set::JwtBundleSet;
 pub use spiffe_id::{
     DEFAULT_SVID, SPIFFE_SCHEME, SPIFFE_SCHEME_PREFIX, SPIFFE_SOCKET_ENV, SpiffeId, SpiffeIdError,
-    TrustDomain, uri_has_spiffe_scheme,
+    TrustDomain, have_same_text, reread_id, reread_trust_domain, reread_trust_domain_id,
+    uri_has_spiffe_scheme,
 };
 pub use spiffe_json::JsonError;
 
