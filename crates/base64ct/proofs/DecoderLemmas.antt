@@ -9,9 +9,9 @@ use Rattle.base64_alphabet.specs.Table.{all_in, is_in}
 use Rattle.base64_alphabet.specs.Group.{End, High, Low, bytes_of, characters_of}
 use Rattle.base64_alphabet.specs.Encoding.{characters, encoding_of, bytes_of_blocks, padding_len}
 use Rattle.base64_alphabet.proofs.TableLemmas.{Facts, ascii_at}
-use Rattle.base64ct.specs.Canonical.{IsBytes, decoded_len, unpadded_len, IsDecodeError, IsDecodeVecError}
+use Rattle.base64ct.specs.Canonical.{IsBytes, decoded_len, unpadded_len, IsDecodeError, IsDecodeVecError, loose_bytes}
 use Rattle.base64ct.specs.LastBlock.{last_at, HasCanonicalEnd}
-use Rattle.base64ct.specs.Items.{block_items, items, loose_bytes, IsCanonicalEnd, IsWrapped, IsWrapError}
+use Rattle.base64ct.specs.Items.{block_items, items, IsCanonicalEnd, IsWrapped, IsWrapError}
 use Rattle.base64ct.specs.declared.errors.Error.{Error}
 use Rattle.base64ct.specs.declared.errors.Error.TheVariants.{InvalidEncoding, InvalidLength, OutOfMemory}
 use Rattle.base64ct.specs.Lines.{IsLine, is_line_break, joined, has_endings, IsWrappedText}
@@ -366,3 +366,7 @@ vec_error end table padded t space OutOfMemory is h = absurd h
 pub no_text : (t : List ℕ) → length t ≡ 0 → t ≡ []
 no_text [] h = refl
 no_text (x ∷ t) h = absurd (omega arith)
+
+pub no_blocks_text : (end : End) (table : List ℕ) (padded : Bool) (t b : List ℕ) → padded ≡ true → (length t % 4 ≡ 0 → ⊥) → t ≡ encoding_of end table padded b → ⊥
+no_blocks_text end table true t b is ne text = ne (whole_blocks end table t b text)
+no_blocks_text end table false t b is ne text = cc

@@ -3,8 +3,8 @@ use Rattle.std.proofs.Common.{◌≡◌, ℕ, suc, ◌+◌, ◌-◌, ◌*◌, �
 use Rattle.std.proofs.lemmas.List.{take-append-drop, length-drop}
 use Rattle.base64_alphabet.specs.Encoding.{bytes_of_blocks, characters, encoding_of}
 use Rattle.base64_alphabet.specs.Group.{End, High, Low, bytes_of, characters_of}
-use Rattle.base64ct.specs.Canonical.{IsBytes}
-use Rattle.base64ct.specs.Items.{block_items, items, loose_bytes}
+use Rattle.base64ct.specs.Canonical.{IsBytes, loose_bytes}
+use Rattle.base64ct.specs.Items.{block_items, items}
 use Rattle.base64_alphabet.proofs.TableLemmas.{Facts}
 use Rattle.base64ct.proofs.Algebra.{bytes_back, number_of_its_digits}
 use Rattle.base64ct.proofs.Texts.{digits_at, in_four}

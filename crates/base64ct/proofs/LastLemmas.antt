@@ -7,7 +7,7 @@ use lib.Pointwise.{pointwise}
 use Rattle.base64_alphabet.specs.Encoding.{characters, encoding_of, padding_len}
 use Rattle.base64_alphabet.specs.Group.{End, High, Low, bytes_of, characters_of}
 use Rattle.base64_alphabet.specs.Table.{all_in, digit_of, is_in}
-use Rattle.base64ct.specs.Canonical.{IsBytes, unpadded_len}
+use Rattle.base64ct.specs.Canonical.{IsBytes, unpadded_len, is_clean}
 use Rattle.base64ct.specs.LastBlock.{filled}
 use Rattle.base64_alphabet.proofs.TableLemmas.{Facts, digit_below}
 use Rattle.base64ct.proofs.Algebra.{same, is_in_at, digit_at, bytes_back, number_of_its_digits}
@@ -65,6 +65,7 @@ pub record IsLast (end : End) (table : List ℕ) (padded : Bool) (last b : List 
   pub few : length b ≤ 3
   pub len : unpadded_len padded last ≡ length b + 1
   pub in_table : all_in table (filled (length b + 1) last) ≡ true
+  pub clean : is_clean table padded last ≡ true
   pub bytes : take (length b) (bytes_of end table (slice_index (filled (length b + 1) last) 0) (slice_index (filled (length b + 1) last) 1) (slice_index (filled (length b + 1) last) 2) (slice_index (filled (length b + 1) last) 3)) ≡ b
 
 -- four characters that are in the table, by their digits
@@ -85,8 +86,8 @@ one_last High table padded x f lt =
     let dq = digit_at table (n / 4096 % 64) f.distinct (omega arith) in
     let byte : (n / 262144 * 262144 + n / 4096 % 64 * 4096 + digit_of table 65 * 64 + digit_of table 65) / 65536 ≡ x = omega arith in
     elim padded as (λ p. IsLast High table p (encoding_of High table p (x ∷ [])) (x ∷ [])) [
-      | true ↦ record { two = omega arith; some = omega arith; few = omega arith; len = refl; in_table = in_all table _ _ _ _ ip iq f.has_a f.has_a; bytes = rw (dp, dq, byte) refl }
-      | false ↦ record { two = omega arith; some = omega arith; few = omega arith; len = refl; in_table = in_all table _ _ _ _ ip iq f.has_a f.has_a; bytes = rw (dp, dq, byte) refl }
+      | true ↦ record { two = omega arith; some = omega arith; few = omega arith; len = refl; in_table = in_all table _ _ _ _ ip iq f.has_a f.has_a; clean = rw (ip, iq) refl; bytes = rw (dp, dq, byte) refl }
+      | false ↦ record { two = omega arith; some = omega arith; few = omega arith; len = refl; in_table = in_all table _ _ _ _ ip iq f.has_a f.has_a; clean = rw (ip, iq) refl; bytes = rw (dp, dq, byte) refl }
     ]
 one_last Low table padded x f lt =
     let n : ℕ = 0 * 65536 + 0 * 256 + x in
@@ -100,8 +101,8 @@ one_last Low table padded x f lt =
     let dq = digit_at table (n / 64 % 64) f.distinct (omega arith) in
     let byte : (digit_of table 65 * 262144 + digit_of table 65 * 4096 + n / 64 % 64 * 64 + n % 64) % 256 ≡ x = omega arith in
     elim padded as (λ p. IsLast Low table p (encoding_of Low table p (x ∷ [])) (x ∷ [])) [
-      | true ↦ record { two = omega arith; some = omega arith; few = omega arith; len = refl; in_table = in_all table _ _ _ _ ip iq f.has_a f.has_a; bytes = rw (dp, dq, byte) refl }
-      | false ↦ record { two = omega arith; some = omega arith; few = omega arith; len = refl; in_table = in_all table _ _ _ _ ip iq f.has_a f.has_a; bytes = rw (dp, dq, byte) refl }
+      | true ↦ record { two = omega arith; some = omega arith; few = omega arith; len = refl; in_table = in_all table _ _ _ _ ip iq f.has_a f.has_a; clean = rw (ip, iq) refl; bytes = rw (dp, dq, byte) refl }
+      | false ↦ record { two = omega arith; some = omega arith; few = omega arith; len = refl; in_table = in_all table _ _ _ _ ip iq f.has_a f.has_a; clean = rw (ip, iq) refl; bytes = rw (dp, dq, byte) refl }
     ]
 
 two_last : (end : End) (table : List ℕ) (padded : Bool) (x y : ℕ) → Facts table → x < 256 → y < 256 → IsLast end table padded (encoding_of end table padded (x ∷ y ∷ [])) (x ∷ y ∷ [])
@@ -123,8 +124,8 @@ two_last High table padded x y f lt lu =
     let byte : (n / 262144 * 262144 + n / 4096 % 64 * 4096 + n / 64 % 64 * 64 + digit_of table 65) / 65536 ≡ x = omega arith in
     let more : (n / 262144 * 262144 + n / 4096 % 64 * 4096 + n / 64 % 64 * 64 + digit_of table 65) / 256 % 256 ≡ y = omega arith in
     elim padded as (λ p. IsLast High table p (encoding_of High table p (x ∷ y ∷ [])) (x ∷ y ∷ [])) [
-      | true ↦ record { two = omega arith; some = omega arith; few = omega arith; len = rw ne refl; in_table = in_all table _ _ _ _ ip iq ir f.has_a; bytes = rw (dp, dq, dr, byte, more) refl }
-      | false ↦ record { two = omega arith; some = omega arith; few = omega arith; len = refl; in_table = in_all table _ _ _ _ ip iq ir f.has_a; bytes = rw (dp, dq, dr, byte, more) refl }
+      | true ↦ record { two = omega arith; some = omega arith; few = omega arith; len = rw ne refl; in_table = in_all table _ _ _ _ ip iq ir f.has_a; clean = rw (ne, ip, iq, ir) refl; bytes = rw (dp, dq, dr, byte, more) refl }
+      | false ↦ record { two = omega arith; some = omega arith; few = omega arith; len = refl; in_table = in_all table _ _ _ _ ip iq ir f.has_a; clean = rw (ip, iq, ir) refl; bytes = rw (dp, dq, dr, byte, more) refl }
     ]
 two_last Low table padded x y f lt lu =
     let n : ℕ = 0 * 65536 + y * 256 + x in
@@ -143,8 +144,8 @@ two_last Low table padded x y f lt lu =
     let byte : (digit_of table 65 * 262144 + n / 4096 % 64 * 4096 + n / 64 % 64 * 64 + n % 64) % 256 ≡ x = omega arith in
     let more : (digit_of table 65 * 262144 + n / 4096 % 64 * 4096 + n / 64 % 64 * 64 + n % 64) / 256 % 256 ≡ y = omega arith in
     elim padded as (λ p. IsLast Low table p (encoding_of Low table p (x ∷ y ∷ [])) (x ∷ y ∷ [])) [
-      | true ↦ record { two = omega arith; some = omega arith; few = omega arith; len = rw ne refl; in_table = in_all table _ _ _ _ ip iq ir f.has_a; bytes = rw (dp, dq, dr, byte, more) refl }
-      | false ↦ record { two = omega arith; some = omega arith; few = omega arith; len = refl; in_table = in_all table _ _ _ _ ip iq ir f.has_a; bytes = rw (dp, dq, dr, byte, more) refl }
+      | true ↦ record { two = omega arith; some = omega arith; few = omega arith; len = rw ne refl; in_table = in_all table _ _ _ _ ip iq ir f.has_a; clean = rw (ne, ip, iq, ir) refl; bytes = rw (dp, dq, dr, byte, more) refl }
+      | false ↦ record { two = omega arith; some = omega arith; few = omega arith; len = refl; in_table = in_all table _ _ _ _ ip iq ir f.has_a; clean = rw (ip, iq, ir) refl; bytes = rw (dp, dq, dr, byte, more) refl }
     ]
 
 three_last : (end : End) (table : List ℕ) (padded : Bool) (x y z : ℕ) → Facts table → x < 256 → y < 256 → z < 256 → IsLast end table padded (encoding_of end table padded (x ∷ y ∷ z ∷ [])) (x ∷ y ∷ z ∷ [])
@@ -168,8 +169,8 @@ three_last High table padded x y z f lt lu lv =
     let ds = digit_at table (n % 64) f.distinct (omega arith) in
     let back = ap (take 3) (bytes_back High x y z lt lu lv) in
     elim padded as (λ p. IsLast High table p (encoding_of High table p (x ∷ y ∷ z ∷ [])) (x ∷ y ∷ z ∷ [])) [
-      | true ↦ record { two = omega arith; some = omega arith; few = omega arith; len = rw (ne, nf) refl; in_table = in_all table _ _ _ _ ip iq ir is; bytes = rw (dp, dq, dr, ds, number_of_its_digits n) back }
-      | false ↦ record { two = omega arith; some = omega arith; few = omega arith; len = refl; in_table = in_all table _ _ _ _ ip iq ir is; bytes = rw (dp, dq, dr, ds, number_of_its_digits n) back }
+      | true ↦ record { two = omega arith; some = omega arith; few = omega arith; len = rw (ne, nf) refl; in_table = in_all table _ _ _ _ ip iq ir is; clean = rw (ne, nf, ip, iq, ir, is) refl; bytes = rw (dp, dq, dr, ds, number_of_its_digits n) back }
+      | false ↦ record { two = omega arith; some = omega arith; few = omega arith; len = refl; in_table = in_all table _ _ _ _ ip iq ir is; clean = rw (ip, iq, ir, is) refl; bytes = rw (dp, dq, dr, ds, number_of_its_digits n) back }
     ]
 three_last Low table padded x y z f lt lu lv =
     let n : ℕ = z * 65536 + y * 256 + x in
@@ -190,8 +191,8 @@ three_last Low table padded x y z f lt lu lv =
     let ds = digit_at table (n / 262144) f.distinct (omega arith) in
     let back = ap (take 3) (bytes_back Low x y z lt lu lv) in
     elim padded as (λ p. IsLast Low table p (encoding_of Low table p (x ∷ y ∷ z ∷ [])) (x ∷ y ∷ z ∷ [])) [
-      | true ↦ record { two = omega arith; some = omega arith; few = omega arith; len = rw (ne, nf) refl; in_table = in_all table _ _ _ _ ip iq ir is; bytes = rw (dp, dq, dr, ds, number_of_its_digits n) back }
-      | false ↦ record { two = omega arith; some = omega arith; few = omega arith; len = refl; in_table = in_all table _ _ _ _ ip iq ir is; bytes = rw (dp, dq, dr, ds, number_of_its_digits n) back }
+      | true ↦ record { two = omega arith; some = omega arith; few = omega arith; len = rw (ne, nf) refl; in_table = in_all table _ _ _ _ ip iq ir is; clean = rw (ne, nf, ip, iq, ir, is) refl; bytes = rw (dp, dq, dr, ds, number_of_its_digits n) back }
+      | false ↦ record { two = omega arith; some = omega arith; few = omega arith; len = refl; in_table = in_all table _ _ _ _ ip iq ir is; clean = rw (ip, iq, ir, is) refl; bytes = rw (dp, dq, dr, ds, number_of_its_digits n) back }
     ]
 
 length_some : (end : End) (table : List ℕ) (x : ℕ) (b : List ℕ) → 2 ≤ length (characters end table (x ∷ b))

@@ -7,3 +7,5 @@ pub mod LinesLemmas
 pub mod ItemsLemmas
 pub mod EncodingLemmas
 pub mod DecoderLemmas
+pub mod LooseLemmas
+pub mod CountLemmas

@@ -18,13 +18,13 @@ characters_group Low table p q r s rest a b c d =
     rw (number_of_bytes (s * 262144 + r * 4096 + q * 64 + p)) (ap (λ ds. map (slice_index table) ds ++ characters Low table rest) (digits_back Low p q r s a b c d))
 
 -- whole blocks in the table are the characters of their bytes
-pub characters_groups : (end : End) (table t : List ℕ) → Facts table → length t % 4 ≡ 0 → all_in table t ≡ true → characters end table (bytes_of_blocks end table t) ≡ t
+pub characters_bytes_of_blocks : (end : End) (table t : List ℕ) → Facts table → length t % 4 ≡ 0 → all_in table t ≡ true → characters end table (bytes_of_blocks end table t) ≡ t
 unfolding characters bytes_of_blocks
-characters_groups end table [] f whole h = refl
-characters_groups end table (p ∷ []) f whole h = absurd (omega arith)
-characters_groups end table (p ∷ q ∷ []) f whole h = absurd (omega arith)
-characters_groups end table (p ∷ q ∷ r ∷ []) f whole h = absurd (omega arith)
-characters_groups end table (p ∷ q ∷ r ∷ s ∷ t) f whole h =
+characters_bytes_of_blocks end table [] f whole h = refl
+characters_bytes_of_blocks end table (p ∷ []) f whole h = absurd (omega arith)
+characters_bytes_of_blocks end table (p ∷ q ∷ []) f whole h = absurd (omega arith)
+characters_bytes_of_blocks end table (p ∷ q ∷ r ∷ []) f whole h = absurd (omega arith)
+characters_bytes_of_blocks end table (p ∷ q ∷ r ∷ s ∷ t) f whole h =
     let hp = and_parts (is_in table p) (all_in table (q ∷ r ∷ s ∷ t)) h in
     let hq = and_parts (is_in table q) (all_in table (r ∷ s ∷ t)) hp.1 in
     let hr = and_parts (is_in table r) (all_in table (s ∷ t)) hq.1 in
@@ -36,7 +36,7 @@ characters_groups end table (p ∷ q ∷ r ∷ s ∷ t) f whole h =
     let ls : digit_of table s < 64 = (let l = digit_below table s hs.0 in omega arith) in
     characters_group end table (digit_of table p) (digit_of table q) (digit_of table r) (digit_of table s) (bytes_of_blocks end table t) lp lq lr ls
     ∙ rw (at_digit table p hp.0, at_digit table q hq.0, at_digit table r hr.0, at_digit table s hs.0)
-    (ap (λ xs. p ∷ q ∷ r ∷ s ∷ xs) (characters_groups end table t f (omega arith) hs.1))
+    (ap (λ xs. p ∷ q ∷ r ∷ s ∷ xs) (characters_bytes_of_blocks end table t f (omega arith) hs.1))
 
 -- what a group's characters are
 record Group (end : End) (table : List ℕ) (a b c : ℕ) : Type 0 where
@@ -84,15 +84,15 @@ group_is Low table a b c f x y z =
     }
 
 -- the characters of whole bytes_of_blocks are in the table, and stand for their bytes
-pub groups_characters : (end : End) (table b : List ℕ) → Facts table → IsBytes b → length b % 3 ≡ 0
+pub bytes_of_blocks_characters : (end : End) (table b : List ℕ) → Facts table → IsBytes b → length b % 3 ≡ 0
     → (all_in table (characters end table b) ≡ true) × (bytes_of_blocks end table (characters end table b) ≡ b)
 unfolding characters bytes_of_blocks
-groups_characters end table [] f bytes whole = (refl, refl)
-groups_characters end table (a ∷ []) f bytes whole = absurd (omega arith)
-groups_characters end table (a ∷ b ∷ []) f bytes whole = absurd (omega arith)
-groups_characters end table (a ∷ b ∷ c ∷ rest) f bytes whole =
+bytes_of_blocks_characters end table [] f bytes whole = (refl, refl)
+bytes_of_blocks_characters end table (a ∷ []) f bytes whole = absurd (omega arith)
+bytes_of_blocks_characters end table (a ∷ b ∷ []) f bytes whole = absurd (omega arith)
+bytes_of_blocks_characters end table (a ∷ b ∷ c ∷ rest) f bytes whole =
     let g = group_is end table a b c f (bytes 0 0 (omega arith)) (bytes 1 0 (omega arith)) (bytes 2 0 (omega arith)) in
-    let r = groups_characters end table rest f (λ k d lt. bytes (suc (suc (suc k))) d (omega arith)) (omega arith) in
+    let r = bytes_of_blocks_characters end table rest f (λ k d lt. bytes (suc (suc (suc k))) d (omega arith)) (omega arith) in
     (g.in_table (characters end table rest) ∙ r.0, g.bytes (characters end table rest) ∙ ap (λ xs. a ∷ b ∷ c ∷ xs) r.1)
 
 -- whole bytes_of_blocks first

@@ -1,8 +1,9 @@
 -- A text by its front and its last block.
-use Rattle.std.proofs.Common.{◌≡◌, ℕ, zero, suc, ◌+◌, ◌-◌, ◌*◌, ◌/◌, ◌%◌, ◌<◌, ◌≤◌, Bool, true, false, List, [], ◌∷◌, ◌++◌, length, take, drop, arith, refl, if◌then◌else◌, ap, sym, ◌∙◌, append_assoc, length-append, length-drop, replicate}
+use Rattle.std.proofs.Common.{◌≡◌, ℕ, zero, suc, ◌+◌, ◌-◌, ◌*◌, ◌/◌, ◌%◌, ◌<◌, ◌≤◌, Bool, true, false, List, [], ◌∷◌, ◌++◌, length, take, drop, arith, refl, if◌then◌else◌, ap, sym, ◌∙◌, append_assoc, length-append, length-drop, replicate, count_by, ◌==◌}
 use Rattle.std.proofs.lemmas.Bool.{both_ways}
 use Rattle.std.proofs.lemmas.Grind.{common_steps}
-use Rattle.std.proofs.lemmas.List.{get_or-drop, get_or-take, take-append-drop, drop_at, take_at, length-take}
+use Rattle.std.proofs.lemmas.List.{get_or-drop, get_or-take, take-append-drop, drop_at, take_at, length-take, drop-drop}
+use Rattle.std.proofs.lemmas.List.Sums.{count_by-le-length}
 use Rattle.std.proofs.lemmas.Slice.{take-put_mid}
 use borrow.Rule.Slice.PartMut.{put_mid}
 use Rattle.base64_alphabet.specs.Encoding.{bytes_of_blocks, characters, encoding_of, padding_len}
@@ -10,17 +11,23 @@ use Rattle.base64_alphabet.specs.Group.{End, High, Low}
 use Rattle.base64_alphabet.specs.Table.{all_in}
 use Rattle.base64ct.specs.Canonical.{IsBytes, IsNoEncoding, decoded_len, unpadded_len}
 use Rattle.base64_alphabet.proofs.TableLemmas.{Facts}
-use Rattle.base64ct.proofs.Texts.{characters_groups, groups_characters, characters-append}
+use Rattle.base64ct.proofs.Texts.{characters_bytes_of_blocks, bytes_of_blocks_characters, characters-append}
+
+-- at most two `=` stand among the last two characters
+pub pads_le : (t : List ℕ) → (count_by (λ c. c == 61) (drop (length t - 2) t) ≤ 2) × (count_by (λ c. c == 61) (drop (length t - 2) t) ≤ length t)
+pads_le t =
+    let r = count_by-le-length (λ c. c == 61) (drop (length t - 2) t) in
+    let l = length-drop (length t - 2) t in
+    (omega arith, omega arith)
 
 pub unpadded_split : (padded : Bool) (src : List ℕ) (at : ℕ) → at ≤ length src → (padded ≡ true → 2 ≤ length (drop at src)) → unpadded_len padded src ≡ at + unpadded_len padded (drop at src)
 unpadded_split false src at le two = let e = length-drop at src in omega arith
 unpadded_split true src at le two =
     let t = two refl in
     let e = length-drop at src in
-    let p : length src - 1 ≡ at + (length (drop at src) - 1) = omega arith in
     let q : length src - 2 ≡ at + (length (drop at src) - 2) = omega arith in
-    rw (p, q, ← get_or-drop at src (length (drop at src) - 1) 0, ← get_or-drop at src (length (drop at src) - 2) 0)
-    (grind (arith, e))
+    let pads = pads_le (drop at src) in
+    rw (q, ← drop-drop (length (drop at src) - 2) at src) (omega arith)
 
 pub encoding_of-append : (end : End) (table x y : List ℕ) (padded : Bool) → length x % 3 ≡ 0 → encoding_of end table padded (x ++ y) ≡ characters end table x ++ encoding_of end table padded y
 encoding_of-append end table x y padded whole =
@@ -105,7 +112,7 @@ none_by_rest end table padded src q more none b bytes is =
 pub none_by_front : (end : End) (table : List ℕ) (padded : Bool) (src : List ℕ) (q : ℕ) → Facts table → 4 * q < length src → all_in table (take (4 * q) src) ≡ false → IsNoEncoding end table padded src
 none_by_front end table padded src q f more bad b bytes is =
     let h = halves end table padded src b q more bytes is in
-    both_ways _ bad (ap (all_in table) h.front ∙ (groups_characters end table (take (3 * q) b) f h.front_bytes h.whole).0)
+    both_ways _ bad (ap (all_in table) h.front ∙ (bytes_of_blocks_characters end table (take (3 * q) b) f h.front_bytes h.whole).0)
 
 -- the bytes of the front and of the last block are the bytes of the text
 pub whole_text : (end : End) (table : List ℕ) (padded : Bool) (src last_bytes : List ℕ) (q : ℕ) → Facts table → 4 * q ≤ length src
@@ -118,7 +125,7 @@ whole_text end table padded src last_bytes q f le good rest =
     let g = length-bytes_of_blocks end table (take (4 * q) src) four in
     let three : length (bytes_of_blocks end table (take (4 * q) src)) % 3 ≡ 0 = omega arith in
     sym (encoding_of-append end table (bytes_of_blocks end table (take (4 * q) src)) last_bytes padded three
-    ∙ ap (λ xs. xs ++ encoding_of end table padded last_bytes) (characters_groups end table (take (4 * q) src) f four good)
+    ∙ ap (λ xs. xs ++ encoding_of end table padded last_bytes) (characters_bytes_of_blocks end table (take (4 * q) src) f four good)
     ∙ ap (λ ys. take (4 * q) src ++ ys) (sym rest) ∙ take-append-drop (4 * q) src)
 
 -- what was written

@@ -1,9 +1,9 @@
 -- What a decoder has left: for each byte to come its value, or `None` where its block is bad.
-use Rattle.std.specs.Prelude.{◌≡◌, ℕ, ◌+◌, ◌-◌, ◌%◌, ◌<◌, ◌≤◌, ◌^◌, Bool, true, false, ◌⊎◌, if◌then◌else◌, List, [], ◌∷◌, ◌++◌, length, take, drop, map, Option, Some, None, replicate, Contains}
+use Rattle.std.specs.Prelude.{◌≡◌, ℕ, ◌+◌, ◌<◌, ◌≤◌, ◌^◌, Bool, true, false, ◌⊎◌, if◌then◌else◌, List, [], ◌∷◌, ◌++◌, length, take, drop, map, Option, Some, None, Contains}
 use Rattle.base64_alphabet.specs.Table.{all_in}
 use Rattle.base64_alphabet.specs.Group.{End, bytes_of}
-use Rattle.base64_alphabet.specs.Encoding.{encoding_of, bytes_of_blocks}
-use Rattle.base64ct.specs.Canonical.{decoded_len, unpadded_len, IsBytes}
+use Rattle.base64_alphabet.specs.Encoding.{encoding_of}
+use Rattle.base64ct.specs.Canonical.{IsBytes, loose_bytes}
 use Rattle.base64ct.specs.LastBlock.{last_at, HasCanonicalEnd}
 use Rattle.base64ct.specs.Lines.{joined, has_endings, ends_in_ending}
 use Rattle.base64ct.specs.declared.errors.Error.{Error}
@@ -13,11 +13,6 @@ use Rattle.base64ct.specs.declared.errors.Error.TheVariants.{InvalidEncoding, In
 unfoldable pub block_items : End → List ℕ → List ℕ → List (Option ℕ)
 block_items end table (p ∷ q ∷ r ∷ s ∷ rest) = (if all_in table (p ∷ q ∷ r ∷ s ∷ []) then map Some (bytes_of end table p q r s) else None ∷ None ∷ None ∷ []) ++ block_items end table rest
 block_items end table _ = []
-
--- the bytes that a text's characters stand for, whatever bits follow the last byte: a short last block is
--- filled with `A`
-abbrev pub loose_bytes : End → List ℕ → Bool → List ℕ → List ℕ
-loose_bytes end table padded t = take (decoded_len (unpadded_len padded t)) (bytes_of_blocks end table (take (unpadded_len padded t) t ++ replicate (3 - (unpadded_len padded t - 1) % 4) 65))
 
 -- the items of a text: those of its blocks before the last, and the bytes of the last
 abbrev pub items : End → List ℕ → Bool → List ℕ → List (Option ℕ)

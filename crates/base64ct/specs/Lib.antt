@@ -1,3 +1,4 @@
+pub mod Errors
 pub mod Canonical
 pub mod Lines
 pub mod LastBlock

@@ -1,50 +1,105 @@
 //! Decoding of whole texts.
 #![tactic(auto)]
 
-ghost use Rattle.std.specs.Prelude.{◌≡◌, ℕ, ◌<◌, ◌≤◌, ◌+◌, ◌*◌, ◌/◌, ◌%◌, ◌++◌, List, length, take, drop, IfOk, IfErr, true, false, ◌≢◌};
+ghost use Rattle.std.specs.Prelude.{◌≡◌, ℕ, ◌<◌, ◌≤◌, ◌+◌, ◌-◌, ◌*◌, ◌/◌, ◌%◌, ◌++◌, ◌↔◌, List, length, take, drop, IfOk, IfErr, IsOkAnd, true, false, ◌≢◌, if◌then◌else◌};
 ghost use Rattle.base64_alphabet.specs.Encoding.{encoding_of, bytes_of_blocks};
 ghost use Rattle.base64_alphabet.specs.Table.{all_in};
-ghost use Rattle.base64ct.specs.Canonical.{IsBytes, IsDecodeError, IsDecodeVecError, HasWholeBlocks};
+ghost use Rattle.base64ct.specs.Canonical.{IsBytes, IsDecodeError, IsDecodeVecError, HasWholeBlocks, has_lengths};
+ghost use Rattle.base64ct.specs.Counts.{decode_count, encode_count};
 
+use crate::encode_text::encode_into;
 use crate::errors::Error;
-use crate::last_block::{count_unpadded, decode_last, known};
+use crate::last_block::{count_unpadded, known};
+use crate::loose::decode_loose;
 use base64_alphabet::{Alphabet, Steps, decode_blocks};
 use std::alloc::Global;
 use std::marker::Brand;
 use std::sync::ledger::{Blank, Ledger};
 
-/// Decodes a text to the front of an output, and answers how many bytes there are.
+/// Decodes a text to the front of an output, and answers how many bytes there are. Only the lengths decide
+/// which conversions are made before the last block is checked.
+pub(crate) fn decode_counting<E: Alphabet, L: Ledger>(
+    src: &[u8],
+    dst: &mut [u8],
+    steps: &mut Steps<L>,
+) -> Result<usize, Error>
+    ensures within { IfOk result (λ n. n ≤ length dst.old) }
+    ensures ok { IfOk result (λ n. src.now ≡ encoding_of E.end E.table E.PADDED (take n dst.new)) }
+    ensures bytes { IfOk result (λ n. IsBytes (take n dst.new)) }
+    ensures value { (b : List ℕ) → IsBytes b → src.now ≡ encoding_of E.end E.table E.PADDED b
+        → IfOk result (λ n. take n dst.new ≡ b) }
+    ensures accepted { (b : List ℕ) → IsBytes b → src.now ≡ encoding_of E.end E.table E.PADDED b
+        → length b ≤ length dst.old → IsOkAnd result (λ n. take n dst.new ≡ b) }
+    ensures err { IfErr result (IsDecodeError E.end E.table E.PADDED src.now (length dst.old)) }
+    ensures steps { steps.new ≡ steps.old
+        + (if has_lengths E.PADDED src.now (length dst.old) then decode_count E.table E.PADDED src.now else 0) }
+{
+    if !has_whole_blocks(E::PADDED, src) {
+        return Err(Error::InvalidEncoding);
+    }
+    let u = count_unpadded(E::PADDED, src);
+    let size = 3 * (u / 4) + 3 * (u % 4) / 4;
+    if dst.len() < size {
+        return Err(Error::InvalidLength);
+    }
+    if !decode_loose::<E, L>(src, u, dst, steps) {
+        return Err(Error::InvalidEncoding);
+    }
+    known(dst);
+    if src.is_empty() {
+        return Ok(0);
+    }
+    let block = (src.len() - 1) / 4;
+    if !is_encoding::<E, L>(&src[4 * block..], &dst[3 * block..size], steps) {
+        return Err(Error::InvalidEncoding);
+    }
+    Ok(size)
+}
+
+// Whether a block is the encoding of one to three bytes.
+fn is_encoding<E: Alphabet, L: Ledger>(block: &[u8], bytes: &[u8], steps: &mut Steps<L>) -> bool
+    requires { length bytes.now ≤ 3 }
+    ensures same { (result ≡ true) ↔ (block.now ≡ encoding_of E.end E.table E.PADDED bytes.now) }
+    ensures steps { steps.new ≡ steps.old + encode_count E.PADDED (length bytes.now) }
+{
+    let mut text = [0u8; 4];
+    let len = encode_into::<E, L>(bytes, &mut text, steps);
+    &text[..len] == block
+}
+
+/// `decode_counting` without a count.
 pub(crate) fn decode_into<E: Alphabet>(src: &[u8], dst: &mut [u8]) -> Result<usize, Error>
     ensures within { IfOk result (λ n. n ≤ length dst.old) }
     ensures ok { IfOk result (λ n. src.now ≡ encoding_of E.end E.table E.PADDED (take n dst.new)) }
     ensures bytes { IfOk result (λ n. IsBytes (take n dst.new)) }
     ensures value { (b : List ℕ) → IsBytes b → src.now ≡ encoding_of E.end E.table E.PADDED b
         → IfOk result (λ n. take n dst.new ≡ b) }
+    ensures accepted { (b : List ℕ) → IsBytes b → src.now ≡ encoding_of E.end E.table E.PADDED b
+        → length b ≤ length dst.old → IsOkAnd result (λ n. take n dst.new ≡ b) }
     ensures err { IfErr result (IsDecodeError E.end E.table E.PADDED src.now (length dst.old)) }
 {
-    if !has_whole_blocks(E::PADDED, src) {
-        return Err(Error::InvalidEncoding);
-    }
-    if src.is_empty() {
-        return Ok(0);
-    }
-    let u = count_unpadded(E::PADDED, src);
-    if dst.len() < 3 * (u / 4) + 3 * (u % 4) / 4 {
-        return Err(Error::InvalidLength);
-    }
-    let at = 4 * ((src.len() - 1) / 4);
-    let size = 3 * ((src.len() - 1) / 4);
-    let last = &src[at..];
-    let mut bytes = [0u8; 3];
-    let Some(k) = decode_last::<E>(last, &mut bytes) else {
-        return Err(Error::InvalidEncoding);
-    };
-    if !decode_front::<E>(&src[..at], dst) {
-        return Err(Error::InvalidEncoding);
-    }
-    dst[size..size + k].copy_from_slice(&bytes[..k]);
-    known(dst);
-    Ok(size + k)
+    decode_from::<E, Brand>(src, dst, Blank::new(1))
+}
+
+fn decode_from<E: Alphabet, L: Ledger>(
+    src: &[u8],
+    dst: &mut [u8],
+    blank: Blank,
+) -> Result<usize, Error>
+    requires name { blank.name ≡ L.name }
+    requires parts { blank.parts ≡ L.parts }
+    requires share { 0 < blank.parts }
+    ensures within { IfOk result (λ n. n ≤ length dst.old) }
+    ensures ok { IfOk result (λ n. src.now ≡ encoding_of E.end E.table E.PADDED (take n dst.new)) }
+    ensures bytes { IfOk result (λ n. IsBytes (take n dst.new)) }
+    ensures value { (b : List ℕ) → IsBytes b → src.now ≡ encoding_of E.end E.table E.PADDED b
+        → IfOk result (λ n. take n dst.new ≡ b) }
+    ensures accepted { (b : List ℕ) → IsBytes b → src.now ≡ encoding_of E.end E.table E.PADDED b
+        → length b ≤ length dst.old → IsOkAnd result (λ n. take n dst.new ≡ b) }
+    ensures err { IfErr result (IsDecodeError E.end E.table E.PADDED src.now (length dst.old)) }
+{
+    let mut steps = Steps::<L>::new(blank);
+    decode_counting::<E, L>(src, dst, &mut steps)
 }
 
 /// Decodes a text into a vector.
@@ -91,8 +146,8 @@ fn front_counted<E: Alphabet, L: Ledger>(src: &[u8], dst: &mut [u8], blank: Blan
     decode_blocks::<E, L>(src, dst, &mut steps)
 }
 
-// Whether a padded text has whole blocks.
-fn has_whole_blocks(padded: bool, src: &[u8]) -> bool
+/// Whether a padded text has whole blocks.
+pub(crate) fn has_whole_blocks(padded: bool, src: &[u8]) -> bool
     ensures yes { result ≡ true → HasWholeBlocks padded src.now }
     ensures no { result ≡ false → (padded ≡ true) × (length src.now % 4 ≢ 0) }
 {

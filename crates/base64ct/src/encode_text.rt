@@ -1,7 +1,7 @@
 //! Encoding of bytes.
 #![tactic(auto)]
 
-ghost use Rattle.std.specs.Prelude.{◌≡◌, ℕ, ◌≤◌, ◌<◌, ◌+◌, ◌*◌, ◌/◌, ◌%◌, ◌^◌, ◌↔◌, length, take, drop, IsSome, IfSome, IfOk, IfErr, Err, IsAscii, string_bytes};
+ghost use Rattle.std.specs.Prelude.{◌≡◌, ℕ, ◌≤◌, ◌<◌, ◌+◌, ◌*◌, ◌/◌, ◌%◌, ◌^◌, ◌↔◌, length, take, drop, IsSome, IfSome, is_some, if◌then◌else◌, IfOk, IfErr, Err, IsAscii, string_bytes};
 ghost use Rattle.base64_alphabet.specs.Encoding.{encoding_of};
 ghost use Rattle.base64ct.specs.Canonical.{IsEncodeStringError};
 ghost use Rattle.base64ct.specs.Counts.{encoded_len, encode_count};
@@ -30,6 +30,56 @@ pub(crate) fn encode_into<E: Alphabet, L: Ledger>(
     4 * groups + len
 }
 
+/// Writes the encoding to the front of an output, and answers its length, or `None` where it doesn't fit.
+pub(crate) fn encode_fitting<E: Alphabet, L: Ledger>(
+    src: &[u8],
+    dst: &mut [u8],
+    steps: &mut Steps<L>,
+) -> Option<usize>
+    ensures within { IfSome result (λ n. n ≤ length dst.old) }
+    ensures text { IfSome result (λ n. take n dst.new ≡ encoding_of E.end E.table E.PADDED src.now) }
+    ensures ascii { IfSome result (λ n. IsAscii (take n dst.new)) }
+    ensures fits { IsSome result ↔ ((4 * length src.now < 2 ^ 64) × (encoded_len E.PADDED (length src.now) ≤ length dst.old)) }
+    ensures steps { steps.new ≡ steps.old + (if is_some result then encode_count E.PADDED (length src.now) else 0) }
+{
+    let len = encoded_length(src.len(), E::PADDED)?;
+    if dst.len() < len {
+        return None;
+    }
+    Some(encode_into::<E, L>(src, dst, steps))
+}
+
+/// `encode_fitting` without a count.
+pub(crate) fn encode_plainly<E: Alphabet>(src: &[u8], dst: &mut [u8]) -> Option<usize>
+    ensures within { IfSome result (λ n. n ≤ length dst.old) }
+    ensures text { IfSome result (λ n. take n dst.new ≡ encoding_of E.end E.table E.PADDED src.now) }
+    ensures ascii { IfSome result (λ n. IsAscii (take n dst.new)) }
+    ensures fits { IsSome result ↔ ((4 * length src.now < 2 ^ 64) × (encoded_len E.PADDED (length src.now) ≤ length dst.old)) }
+{
+    encode_from::<E, Brand>(src, dst, Blank::new(1))
+}
+
+fn encode_from<E: Alphabet, L: Ledger>(src: &[u8], dst: &mut [u8], blank: Blank) -> Option<usize>
+    requires name { blank.name ≡ L.name }
+    requires parts { blank.parts ≡ L.parts }
+    requires share { 0 < blank.parts }
+    ensures within { IfSome result (λ n. n ≤ length dst.old) }
+    ensures text { IfSome result (λ n. take n dst.new ≡ encoding_of E.end E.table E.PADDED src.now) }
+    ensures ascii { IfSome result (λ n. IsAscii (take n dst.new)) }
+    ensures fits { IsSome result ↔ ((4 * length src.now < 2 ^ 64) × (encoded_len E.PADDED (length src.now) ≤ length dst.old)) }
+{
+    let mut steps = Steps::<L>::new(blank);
+    encode_fitting::<E, L>(src, dst, &mut steps)
+}
+
+/// ASCII bytes as a text.
+pub(crate) fn ascii_text(bytes: &[u8]) -> &str
+    requires { IsAscii bytes.now }
+    ensures { result.now ≡ bytes.now }
+{
+    unsafe { std::str::from_utf8_unchecked(bytes) }
+}
+
 /// Encodes bytes into a text.
 pub(crate) fn encode_to_string<E: Alphabet>(alloc: Global, input: &[u8]) -> Result<String, Error>
     ensures ok { IfOk result (λ text. string_bytes text ≡ encoding_of E.end E.table E.PADDED input.now) }
@@ -40,21 +90,13 @@ pub(crate) fn encode_to_string<E: Alphabet>(alloc: Global, input: &[u8]) -> Resu
         return Err(Error::InvalidLength);
     };
     let mut text = vec![in alloc; 0u8; len]?;
-    encode_plain::<E, Brand>(input, &mut text, Blank::new(1));
-    Ok(ascii_string(text))
-}
-
-// Writes the encoding to an output of its length.
-fn encode_plain<E: Alphabet, L: Ledger>(src: &[u8], dst: &mut [u8], blank: Blank)
-    requires name { blank.name ≡ L.name }
-    requires parts { blank.parts ≡ L.parts }
-    requires share { 0 < blank.parts }
-    requires room { length dst.old ≡ encoded_len E.PADDED (length src.now) }
-    ensures text { dst.new ≡ encoding_of E.end E.table E.PADDED src.now }
-    ensures ascii { IsAscii dst.new }
-{
-    let mut steps = Steps::<L>::new(blank);
-    encode_into::<E, L>(src, dst, &mut steps);
+    match encode_plainly::<E>(input, &mut text) {
+        Some(n) => {
+            text.truncate(n);
+            Ok(ascii_string(text))
+        }
+        None => Err(Error::InvalidLength),
+    }
 }
 
 // ASCII bytes as a text.

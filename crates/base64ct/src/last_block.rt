@@ -54,18 +54,18 @@ fn encode_few<E: Alphabet, L: Ledger>(bytes: &[u8], blank: Blank) -> ([u8; 4], u
     (text, len)
 }
 
-/// The length without the `=` among the last two characters.
+/// The length without the `=` among the last two characters of a padded text.
 pub(crate) fn count_unpadded(padded: bool, text: &[u8]) -> usize
-    requires { padded ≡ true → 2 ≤ length text.now }
     ensures value { result ≡ unpadded_len padded text.now }
 {
     let n = text.len();
     if !padded {
         return n;
     }
-    let first = if text[n - 2] == b'=' { 1 } else { 0 };
-    let second = if text[n - 1] == b'=' { 1 } else { 0 };
-    n - first - second
+    n - text[n.saturating_sub(2)..]
+        .iter()
+        .filter(|c| **c == b'=')
+        .count()
 }
 
 // The first characters of a block, filled with `A`.

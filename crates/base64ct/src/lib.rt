@@ -2,19 +2,26 @@
 //! by `Encoding`, and texts in lines (as in RFC 7468) by `Decoder`.
 #![tactic(auto)]
 
+mod count_laws;
 mod decode_text;
 mod decoder;
 mod encode_text;
 mod encoding;
 mod errors;
+mod in_place;
 mod last_block;
+mod line_laws;
 mod lines;
+mod loose;
 #[cfg(test)]
 mod tests;
 
+pub use crate::count_laws::unclean_texts_take_one_count;
 pub use crate::decoder::Decoder;
 pub use crate::encoding::Encoding;
 pub use crate::errors::{Error, InvalidEncodingError, InvalidLengthError};
+pub use crate::line_laws::{lines_have_one_join, text_has_one_value};
 pub use base64_alphabet::{
     Alphabet, Base64, Base64ShaCrypt, Base64Unpadded, DecodeStep, EncodeStep, Steps, Unpad,
 };
+pub use base64_alphabets::{Base64Bcrypt, Base64Crypt, Base64Pbkdf2, Base64Url, Base64UrlUnpadded};

@@ -1,8 +1,18 @@
 //! Worked texts.
 #![tactic(auto)]
 
-use crate::{Base64, Decoder, Encoding, Error};
+ghost use Rattle.std.specs.Prelude.{◌≡◌, ◌<◌, List, ℕ, length, true, false};
+ghost use Rattle.base64_alphabet.specs.Standard.{standard};
+ghost use Rattle.base64ct.specs.Canonical.{is_clean, unpadded_len};
+ghost use Rattle.base64ct.specs.Counts.{decode_count};
+
+use crate::{
+    Base64, Base64Bcrypt, Base64Crypt, Base64Pbkdf2, Base64ShaCrypt, Base64Unpadded, Base64Url,
+    Base64UrlUnpadded, Decoder, Encoding, Error, InvalidEncodingError, InvalidLengthError, Steps,
+};
 use std::alloc::Global;
+use std::marker::Brand;
+use std::sync::ledger::{Blank, Ledger};
 
 // An update document of 153 bytes, by hand from its parts: one entry, one bundle.
 const DOCUMENT: &[u8] =
@@ -107,4 +117,289 @@ fn encodes_and_decodes_texts(rt: HostRuntime) {
         let decoded = Base64::decode_vec(rt.alloc(), text).expect(&rt, "a canonical text");
         assert_eq!(rt; decoded.as_slice(), bytes);
     }
+}
+
+// Twelve bytes, whose fronts each alphabet encodes.
+const BYTES: &[u8; 12] = b"\xfb\xff\xbe\x00\x10\x83\x9a\x2d\x07\xe1\x5c\xfe";
+
+// Whether each call agrees that these are the texts of the fronts of `BYTES`, shortest first.
+fn agrees<E: Encoding>(alloc: Global, texts: &[&str; 13]) -> bool {
+    for (n, text) in texts.iter().enumerate() {
+        let bytes = &BYTES[..n.min(12)];
+        let mut space = [0u8; 16];
+        let mut copy = [0u8; 16];
+        let encoded = E::encode(bytes, &mut space) == Ok(*text)
+            && E::encoded_len(bytes) == text.len()
+            && E::encode_string(alloc, bytes).is_ok_and(|t| t.as_str() == *text);
+        let decoded = E::decode(text.as_bytes(), &mut space) == Ok(bytes)
+            && E::decode_vec(alloc, text).is_ok_and(|v| v.as_slice() == bytes);
+        let len = text.len().min(16);
+        copy[..len].copy_from_slice(&text.as_bytes()[..len]);
+        if !encoded || !decoded || E::decode_in_place(&mut copy[..len]) != Ok(bytes) {
+            return false;
+        }
+    }
+    true
+}
+
+// By python: its base64 for the first and the third alphabet, and for all eight a loop over groups with
+// `int.from_bytes` and shifts, checked against that.
+#[test]
+fn agrees_with_python(rt: HostRuntime) {
+    assert!(rt;
+        agrees::<Base64>(
+            rt.alloc(),
+            &[
+                "",
+                "+w==",
+                "+/8=",
+                "+/++",
+                "+/++AA==",
+                "+/++ABA=",
+                "+/++ABCD",
+                "+/++ABCDmg==",
+                "+/++ABCDmi0=",
+                "+/++ABCDmi0H",
+                "+/++ABCDmi0H4Q==",
+                "+/++ABCDmi0H4Vw=",
+                "+/++ABCDmi0H4Vz+"
+            ]
+        )
+    );
+    assert!(rt;
+        agrees::<Base64Unpadded>(
+            rt.alloc(),
+            &[
+                "",
+                "+w",
+                "+/8",
+                "+/++",
+                "+/++AA",
+                "+/++ABA",
+                "+/++ABCD",
+                "+/++ABCDmg",
+                "+/++ABCDmi0",
+                "+/++ABCDmi0H",
+                "+/++ABCDmi0H4Q",
+                "+/++ABCDmi0H4Vw",
+                "+/++ABCDmi0H4Vz+"
+            ]
+        )
+    );
+    assert!(rt;
+        agrees::<Base64Url>(
+            rt.alloc(),
+            &[
+                "",
+                "-w==",
+                "-_8=",
+                "-_--",
+                "-_--AA==",
+                "-_--ABA=",
+                "-_--ABCD",
+                "-_--ABCDmg==",
+                "-_--ABCDmi0=",
+                "-_--ABCDmi0H",
+                "-_--ABCDmi0H4Q==",
+                "-_--ABCDmi0H4Vw=",
+                "-_--ABCDmi0H4Vz-"
+            ]
+        )
+    );
+    assert!(rt;
+        agrees::<Base64UrlUnpadded>(
+            rt.alloc(),
+            &[
+                "",
+                "-w",
+                "-_8",
+                "-_--",
+                "-_--AA",
+                "-_--ABA",
+                "-_--ABCD",
+                "-_--ABCDmg",
+                "-_--ABCDmi0",
+                "-_--ABCDmi0H",
+                "-_--ABCDmi0H4Q",
+                "-_--ABCDmi0H4Vw",
+                "-_--ABCDmi0H4Vz-"
+            ]
+        )
+    );
+    assert!(rt;
+        agrees::<Base64Bcrypt>(
+            rt.alloc(),
+            &[
+                "",
+                "8u",
+                "896",
+                "8988",
+                "8988..",
+                "8988./.",
+                "8988./AB",
+                "8988./ABke",
+                "8988./ABkgy",
+                "8988./ABkgyF",
+                "8988./ABkgyF2O",
+                "8988./ABkgyF2Tu",
+                "8988./ABkgyF2Tx8"
+            ]
+        )
+    );
+    assert!(rt;
+        agrees::<Base64Crypt>(
+            rt.alloc(),
+            &[
+                "",
+                "yk",
+                "yzw",
+                "yzyy",
+                "yzyy..",
+                "yzyy./.",
+                "yzyy./01",
+                "yzyy./01aU",
+                "yzyy./01aWo",
+                "yzyy./01aWo5",
+                "yzyy./01aWo5sE",
+                "yzyy./01aWo5sJk",
+                "yzyy./01aWo5sJny"
+            ]
+        )
+    );
+    assert!(rt;
+        agrees::<Base64ShaCrypt>(
+            rt.alloc(),
+            &[
+                "",
+                "v1",
+                "vzD",
+                "vzjj",
+                "vzjj..",
+                "vzjj../",
+                "vzjj..lU",
+                "vzjj..lUO0",
+                "vzjj..lUOq0",
+                "vzjj..lUOqm/",
+                "vzjj..lUOqm/V1",
+                "vzjj..lUOqm/Vn3",
+                "vzjj..lUOqm/VnZz"
+            ]
+        )
+    );
+    assert!(rt;
+        agrees::<Base64Pbkdf2>(
+            rt.alloc(),
+            &[
+                "",
+                ".w",
+                "./8",
+                "./..",
+                "./..AA",
+                "./..ABA",
+                "./..ABCD",
+                "./..ABCDmg",
+                "./..ABCDmi0",
+                "./..ABCDmi0H",
+                "./..ABCDmi0H4Q",
+                "./..ABCDmi0H4Vw",
+                "./..ABCDmi0H4Vz."
+            ]
+        )
+    );
+}
+
+#[test]
+fn decodes_and_encodes_into_outputs(rt: HostRuntime) {
+    let mut out = [0u8; 8];
+    assert_eq!(rt;
+        Base64Pbkdf2::decode(b"Mi", &mut out),
+        Err(Error::InvalidEncoding)
+    );
+    let mut buf = *b"Mi";
+    assert_eq!(rt; Base64Pbkdf2::decode_in_place(&mut buf), Ok(&b"2"[..]));
+    let texts: [(&[u8], usize, Error); 3] = [
+        (b"AA/=", 8, Error::InvalidEncoding),
+        (b"AAA", 0, Error::InvalidEncoding),
+        (b"AAAA", 2, Error::InvalidLength),
+    ];
+    for (text, space, error) in texts {
+        let space = space.min(8);
+        assert_eq!(rt;
+            Base64::decode(text, &mut out[..space]),
+            Err(error),
+            "into {space}"
+        );
+    }
+    assert_eq!(rt; Base64::decode(b"", &mut out[..0]), Ok(&b""[..]));
+    assert_eq!(rt;
+        Base64::encode(b"foo", &mut out[..3]),
+        Err(InvalidLengthError)
+    );
+    assert_eq!(rt;
+        Base64ShaCrypt::encode(b"\x55\xaa\x55\xaa\x55", &mut out),
+        Ok("JdOJeK3")
+    );
+    assert_eq!(rt;
+        Base64Bcrypt::encode(b"\x01\x02\x03\x04", &mut out),
+        Ok(".OGB/.")
+    );
+    assert_eq!(rt; Base64Crypt::encode(b"***", &mut out), Ok("8Wce"));
+    let six = b"\xff\xef\xfe\xff\xef\xfe";
+    assert_eq!(rt; Base64Pbkdf2::encode(six, &mut out), Ok("/./././."));
+}
+
+#[test]
+fn converts_errors(rt: HostRuntime) {
+    assert_eq!(rt; Error::from(InvalidEncodingError), Error::InvalidEncoding);
+    assert_eq!(rt; Error::from(InvalidLengthError), Error::InvalidLength);
+    let kind = std::io::Error::from(Error::InvalidLength).kind();
+    assert_eq!(rt; kind, std::io::ErrorKind::InvalidData);
+    assert_eq!(rt; Error::OutOfMemory as u8, 3);
+}
+
+// What the count of 1,000 characters without padding is, by hand: 250 blocks and one more; 1 block or 2
+// again for the check of the last.
+fn thousand_characters_take()
+    ensures bad { (t : List ℕ) → length t ≡ 1000 → unpadded_len true t ≡ 1000 → is_clean standard true t ≡ false
+        → decode_count standard true t ≡ 1004 }
+    ensures padded { (t : List ℕ) → length t ≡ 1000 → unpadded_len true t ≡ 1000 → is_clean standard true t ≡ true
+        → decode_count standard true t ≡ 1008 }
+    ensures unpadded { (t : List ℕ) → length t ≡ 1000 → is_clean standard false t ≡ true
+        → decode_count standard false t ≡ 1012 }
+{}
+
+fn counted_from<E: Encoding, L: Ledger>(text: &mut [u8; 1000], blank: Blank) -> (bool, bool, bool)
+    requires name { blank.name ≡ L.name }
+    requires parts { blank.parts ≡ L.parts }
+    requires some { 0 < blank.parts }
+{
+    let mut steps = Steps::<L>::new(blank);
+    let mut out = [0u8; 1000];
+    let decoded = E::decode_counted(&text[..], &mut out, &mut steps).is_ok();
+    let in_place = E::decode_in_place_counted(&mut text[..], &mut steps).is_ok();
+    let encoded = E::encode_counted(&[0; 750], &mut out, &mut steps).is_ok();
+    (decoded, in_place, encoded)
+}
+
+fn counted<E: Encoding>(text: &mut [u8; 1000]) -> (bool, bool, bool) {
+    counted_from::<E, Brand>(text, Blank::new(1))
+}
+
+#[test]
+fn counts_a_thousand_characters(rt: HostRuntime) {
+    thousand_characters_take();
+    for at in [0, 500, 999] {
+        let mut text = [b'A'; 1000];
+        text[at] = b'!';
+        assert_eq!(rt;
+            counted::<Base64>(&mut text),
+            (false, false, true),
+            "bad at {at}"
+        );
+    }
+    assert_eq!(rt; counted::<Base64>(&mut [b'A'; 1000]), (true, true, true));
+    assert_eq!(rt;
+        counted::<Base64Unpadded>(&mut [b'A'; 1000]),
+        (true, true, true)
+    );
 }

@@ -1,12 +1,12 @@
 -- Decimal numbers without leading zeros.
-use Rattle.std.proofs.Common.{◌≡◌, ℕ, zero, suc, ◌+◌, ◌-◌, ◌*◌, ◌/◌, ◌%◌, ◌^◌, ◌<◌, ◌≤◌, List, [], ◌∷◌, ◌++◌, length, get_or, drop, drop-cons, Bool, true, false, cond, eqb, ltb, leb, ◌&&◌, Option, Some, None, refl, ap, sym, ◌∙◌, inl, inr, arith, ◌⊎◌, add-one, append_assoc, length-append}
-use Rattle.std.proofs.lemmas.Bool.{lt-ltb, le-ltb, ltb-true, ltb-false, cases_lt, and_parts, and_from}
+use Rattle.std.proofs.Common.{◌≡◌, ℕ, suc, ◌+◌, ◌-◌, ◌*◌, ◌/◌, ◌%◌, ◌^◌, ◌<◌, ◌≤◌, List, [], ◌∷◌, ◌++◌, length, get_or, drop, drop-cons, cond, ltb, Option, Some, None, refl, ap, sym, ◌∙◌, inl, inr, arith, add-one, append_assoc}
+use Rattle.std.proofs.lemmas.Bool.{lt-ltb, le-ltb, ltb-true, ltb-false, cases_lt}
 use Rattle.std.proofs.lemmas.Option.{same_Some, none-some}
 use Rattle.std.proofs.lemmas.List.{drop_all}
-use Rattle.std.proofs.lemmas.Fmt.{decimal_digit, decimal_step, decimal_by_steps, first_decimal, decimal_nonempty}
+use Rattle.std.proofs.lemmas.Fmt.{decimal_digit, decimal_step, decimal_by_steps, first_decimal}
 use Rattle.std.specs.Fmt.{decimal}
 use Rattle.der_core.specs.Oid.{EndsDigits}
-use Rattle.der_core.proofs.Lengths.{branch, IsBytes, IsBytes_tail}
+use Rattle.der_core.proofs.Lengths.{branch}
 
 -- Reading digits, where `number` is what the digits before stand for.
 unfoldable pub digits_from : ℕ → List ℕ → Option (ℕ × List ℕ)

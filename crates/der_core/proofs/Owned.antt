@@ -2,9 +2,8 @@
 use Rattle.std.proofs.Common.{◌≡◌, ℕ, ◌<◌, ◌^◌, List, length, Result, Ok, Err, MatchResult, subst, sym}
 use Rattle.der_core.specs.declared.error.Error.{Error}
 use Rattle.der_core.specs.declared.error.Error.TheVariants as error
-use Rattle.der_core.specs.Decode.{NoFront, Trails, FromDer, FromDerOwned, ReadsTagged}
+use Rattle.der_core.specs.Decode.{FromDer, FromDerOwned, ReadsTagged}
 use Rattle.der_core.specs.Laws.{content_fits}
-use Rattle.der_core.specs.Der.{encode}
 
 -- A value of each kind for each of the other, read from the same bytes.
 pub record SameReads {V P : Type 0} (Reads : List ℕ → V → Type 0) (ReadsPlain : List ℕ → P → Type 0) : Type 0 where

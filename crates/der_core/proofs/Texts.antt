@@ -1,9 +1,9 @@
 -- The text of an object identifier, and which contents have it.
-use Rattle.std.proofs.Common.{◌≡◌, ℕ, zero, suc, ◌+◌, ◌-◌, ◌*◌, ◌/◌, ◌%◌, ◌^◌, ◌<◌, ◌≤◌, List, [], ◌∷◌, ◌++◌, length, get_or, min, map, Option, None, Some, IfNone, refl, ap, sym, subst, ◌∙◌, arith, append_assoc, append-nil, length-append}
+use Rattle.std.proofs.Common.{◌≡◌, ℕ, ◌+◌, ◌^◌, ◌<◌, ◌≤◌, List, [], ◌∷◌, ◌++◌, length, map, Option, None, Some, IfNone, refl, ap, sym, subst, ◌∙◌, arith, append_assoc, append-nil, length-append}
 use Rattle.std.proofs.lemmas.List.Elements.{All-cons, All-nil}
 use Rattle.std.specs.List.{All, flat_map, join_with_byte}
 use Rattle.std.specs.Fmt.{decimal}
-use Rattle.der_core.specs.Oid.{subidentifier_bytes, numbers_from, subidentifiers, AreSubidentifiers, IsOidContent, EndsDigits, first_arc, second_arc, with_two_arcs, arcs_of, oid_text}
+use Rattle.der_core.specs.Oid.{subidentifier_bytes, numbers_from, subidentifiers, AreSubidentifiers, IsOidContent, EndsDigits, first_arc, second_arc, with_two_arcs, oid_text}
 use Rattle.der_core.proofs.Subidentifiers.{numbers_again}
 use Rattle.der_core.proofs.Identifiers.{All-head, All-tail, dotted}
 use Rattle.der_core.proofs.Decimals.{number_unique}

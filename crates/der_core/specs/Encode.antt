@@ -1,5 +1,5 @@
 -- Writing: what a writer was told, and what a call wrote.
-use Rattle.std.specs.Prelude.{◌≡◌, ℕ, List, ◌++◌, ◌+◌, ◌<◌, ◌≤◌, ◌^◌, ◌⊎◌, length, Result, Ok, Err, OnOk, IfErr, refl}
+use Rattle.std.specs.Prelude.{◌≡◌, ℕ, List, ◌++◌, ◌<◌, ◌≤◌, ◌^◌, ◌⊎◌, length, Result, Ok, Err, OnOk, IfErr, refl}
 use Rattle.identity_io.specs.Causes.{Rose}
 use Rattle.der_core.specs.Der.{IsTag, IsValue, encode}
 use Rattle.std.specs.Prelude.{Vec}

@@ -30,6 +30,7 @@ impl<'a> AnyRef<'a> {
     ghost use Rattle.der_core.specs.Decode.{DecodedAs};
     ghost use Rattle.der_core.specs.Tag.{byte_of};
 
+    /// A value of this tag and content. One of nearly 2^32 bytes can be made, but not written: its header counts there.
     pub fn new(tag: Tag, value: &'a [u8]) -> Result<AnyRef<'a>, Error>
         ensures value { IfOk result (λ v. plain_ref v ≡ record { tag = byte_of tag; content = value.now }) }
         ensures fits { IfOk result (λ v. length value.now < 2 ^ 32) }
@@ -48,6 +49,7 @@ impl<'a> AnyRef<'a> {
         AnyRef { tag, value }
     }
 
+    /// The tag that it was read with.
     pub fn tag(&self) -> Tag
         ensures { byte_of result ≡ (plain_ref self.now).tag }
     {
@@ -83,6 +85,7 @@ impl<'a> AnyRef<'a> {
         T::decode_value(&mut cursor)
     }
 
+    /// The same value with bytes of its own, for when the input doesn't live long enough.
     pub fn ref_to_owned(&self, alloc: Global) -> Result<Any, Error>
         ensures { MatchResult result (λ v. plain_any v ≡ plain_ref self.now) (λ e. e ≡ Error.OutOfMemory) }
     {
@@ -184,12 +187,14 @@ impl Any {
         cursor.read_value()?.ref_to_owned(alloc)
     }
 
+    /// The same value in borrowed bytes, which has the calls that take no memory.
     pub fn owned_to_ref(&self) -> AnyRef<'_>
         ensures { plain_ref result ≡ plain_any self.now }
     {
         AnyRef::from_parts(self.tag, &self.value)
     }
 
+    /// The tag that it was read with.
     pub fn tag(&self) -> Tag
         ensures { byte_of result ≡ (plain_any self.now).tag }
     {

@@ -24,12 +24,14 @@ impl<'a> Model for Cursor<'a> {
 }
 
 impl<'a> Cursor<'a> {
+    /// A reader that stands before the first byte.
     pub fn new(bytes: &'a [u8]) -> Self
         ensures { result ≡ bytes.now }
     {
         Cursor { rest: bytes }
     }
 
+    /// Whether nothing is left.
     pub fn is_finished(&self) -> bool
         ensures { IsTrue result ↔ (self.now ≡ []) }
     {

@@ -20,12 +20,14 @@ impl Model for Length {
 impl Length {
     ghost use Rattle.std.specs.Prelude.{◌≡◌};
 
+    /// A count of bytes.
     pub const fn new(n: u32) -> Length
         ensures { result ≡ n }
     {
         Length { number: n }
     }
 
+    /// The count.
     pub const fn get(&self) -> u32
         ensures { result ≡ self.now }
     {

@@ -10,6 +10,7 @@ use std::cmp::Ordering;
 pub trait DerOrd {
     ghost der_order: { Self → Self → Option Answer };
 
+    /// Compares two encodings. Refused where a content that it reaches is too long to be written.
     fn der_cmp(&self, other: &Self) -> Result<Ordering, Error>
         ensures { Compared (der_order self.now other.now) result };
 }
@@ -18,6 +19,7 @@ pub trait DerOrd {
 pub trait ValueOrd {
     ghost value_order: { Self → Self → Option Answer };
 
+    /// Compares two contents. Refused where a part that it reaches is too long to be written.
     fn value_cmp(&self, other: &Self) -> Result<Ordering, Error>
         ensures { Compared (value_order self.now other.now) result };
 }

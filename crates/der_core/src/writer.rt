@@ -16,6 +16,7 @@ pub trait Writer {
     // The borrow that it writes through, where it has one.
     ghost borrow: { Self → ℕ } = { λ _. 0 };
 
+    /// Takes the whole slice, or refuses it and takes nothing. A refusal may be any error.
     fn write(&mut self, slice: &[u8]) -> Result<(), Error>
         ensures told { (m : List ℕ) → HasTold self.old m → HasTold self.new (if is_ok result then m ++ slice.now else m) }
         ensures count { refusals self.old ≤ refusals self.new }

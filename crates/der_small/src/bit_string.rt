@@ -47,6 +47,7 @@ impl<'a> BitStringRef<'a> {
         Ok(BitStringRef { unused_bits, raw })
     }
 
+    /// How many low bits of the last octet are no part of the string.
     pub fn unused_bits(&self) -> u8
         ensures { result ≡ (plain_bits_ref self.now).unused_bits }
     {
@@ -60,6 +61,7 @@ impl<'a> BitStringRef<'a> {
         self.raw
     }
 
+    /// The same string with bytes of its own.
     pub fn ref_to_owned(&self, alloc: Global) -> Result<BitString, Error>
         ensures { MatchResult result (λ v. plain_bits v ≡ plain_bits_ref self.now) (λ e. e ≡ Error.OutOfMemory) }
     {
@@ -157,6 +159,7 @@ impl BitString {
         }
     }
 
+    /// How many low bits of the last octet are no part of the string.
     pub fn unused_bits(&self) -> u8
         ensures { result ≡ (plain_bits self.now).unused_bits }
     {
@@ -170,6 +173,7 @@ impl BitString {
         &self.raw
     }
 
+    /// The same string in borrowed bytes.
     pub fn owned_to_ref(&self) -> BitStringRef<'_>
         ensures { plain_bits_ref result ≡ plain_bits self.now }
     {

@@ -36,6 +36,7 @@ impl Document {
         }
     }
 
+    /// The whole encoding.
     pub fn as_bytes(&self) -> &[u8]
         ensures { result.now ≡ document_bytes self.now }
     {

@@ -26,6 +26,7 @@ impl<'a> OctetStringRef<'a> {
     ghost use Rattle.std.specs.Prelude.{◌≡◌, ◌<◌, ◌≤◌, ◌^◌, length, IfOk, IfErr, OnOk, MatchResult};
     ghost use Rattle.der_small.specs.OctetString.{octets_ref, octets};
 
+    /// A string of these octets, which are not read.
     pub fn new(bytes: &'a [u8]) -> Result<Self, Error>
         ensures value { IfOk result (λ v. octets_ref v ≡ bytes.now) }
         ensures fits { OnOk result (length bytes.now < 2 ^ 32) }
@@ -37,12 +38,14 @@ impl<'a> OctetStringRef<'a> {
         Ok(OctetStringRef { bytes })
     }
 
+    /// The octets.
     pub fn as_bytes(&self) -> &'a [u8]
         ensures { result.now ≡ octets_ref self.now }
     {
         self.bytes
     }
 
+    /// The same string with bytes of its own.
     pub fn ref_to_owned(&self, alloc: Global) -> Result<OctetString, Error>
         ensures { MatchResult result (λ v. octets v ≡ octets_ref self.now) (λ e. e ≡ Error.OutOfMemory) }
     {
@@ -129,12 +132,14 @@ impl OctetString {
         }
     }
 
+    /// The octets.
     pub fn as_bytes(&self) -> &[u8]
         ensures { result.now ≡ octets self.now }
     {
         &self.bytes
     }
 
+    /// The same string in borrowed bytes.
     pub fn owned_to_ref(&self) -> OctetStringRef<'_>
         ensures { octets_ref result ≡ octets self.now }
     {

@@ -37,6 +37,7 @@ impl SecretDocument {
         }
     }
 
+    /// The whole encoding, secret parts too.
     pub fn as_bytes(&self) -> &[u8]
         ensures { result.now ≡ secret_bytes self.now }
     {

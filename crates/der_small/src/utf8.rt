@@ -20,6 +20,7 @@ impl<'a> Utf8Ref<'a> {
     ghost use Rattle.std.specs.Prelude.{◌≡◌, ◌<◌, ◌≤◌, ◌^◌, length, IfOk, IfErr, OnOk};
     ghost use Rattle.der_small.specs.Utf8.{text_ref};
 
+    /// A text as a value.
     pub fn new(text: &'a str) -> Result<Self, Error>
         ensures value { IfOk result (λ v. text_ref v ≡ text.now) }
         ensures fits { OnOk result (length text.now < 2 ^ 32) }
@@ -31,6 +32,7 @@ impl<'a> Utf8Ref<'a> {
         Ok(Utf8Ref { text })
     }
 
+    /// The text.
     pub fn as_str(&self) -> &'a str
         ensures { result.now ≡ text_ref self.now }
     {

@@ -1,5 +1,5 @@
 -- How a disk in memory counts its faults.
-use Rattle.std.specs.Prelude.{ℕ, Result, Ok, Err}
+use Rattle.std.specs.Prelude.{ℕ, Result, Err}
 use Rattle.identity_io.specs.Memory.{one_more}
 use Rattle.identity_io.specs.declared.disk.DiskError.{DiskError}
 use Rattle.identity_io.specs.declared.disk.DiskError.TheVariants as error

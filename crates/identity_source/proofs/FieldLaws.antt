@@ -1,5 +1,5 @@
 -- What a field read from bytes says of them.
-use Rattle.std.proofs.Common.{◌≡◌, ℕ, ◌+◌, ◌==◌, ◌<◌, ◌^◌, Bool, true, false, if◌then◌else◌, List, [], ◌∷◌, ◌++◌, length, Option, Some, None, option_map, option_and_then, IfSome, refl, ap, sym, ◌∙◌, arith}
+use Rattle.std.proofs.Common.{◌≡◌, ℕ, ◌==◌, ◌<◌, ◌^◌, Bool, true, false, if◌then◌else◌, List, ◌++◌, length, Option, Some, None, option_map, option_and_then, IfSome, refl, arith}
 use Rattle.std.proofs.lemmas.Bool.{eqb-true}
 use Rattle.std.proofs.lemmas.Bool.Decides.{nat_tests}
 use Rattle.der_core.specs.Der.{IsTag, IsValue, encode}
@@ -29,8 +29,8 @@ no_value : (tag : ℕ) (bytes : List ℕ) (v : Option (ℕ × List ℕ × List �
 no_value tag bytes None valid found fits none = refl
 no_value tag bytes (Some f) valid found fits none =
     tagged_none tag f (f.0 == tag) refl (λ same.
-        let valid' : IsTag f.0 = rw same valid in
-        none (encode f.0 f.1) f.2 record { tag = f.0; content = f.1; tag_ok = valid'; is = refl; fits = fits } found)
+    let valid' : IsTag f.0 = rw same valid in
+    none (encode f.0 f.1) f.2 record { tag = f.0; content = f.1; tag_ok = valid'; is = refl; fits = fits } found)
 
 -- where no value is at the front, `field` finds none
 pub field_none : (tag : ℕ) (bytes : List ℕ) → IsTag tag → IsBytes bytes
@@ -39,7 +39,7 @@ unfolding field
 field_none tag bytes valid are none =
     let same = again (read_value bytes) in
     no_value tag bytes (read_value bytes) valid (found_of (read_value bytes) (λ f. f.0) (λ f. f.1) (λ f. f.2) bytes are same)
-        (fits_of (read_value bytes) (λ f. f.0) (λ f. f.1) (λ f. f.2) bytes are same) none
+    (fits_of (read_value bytes) (λ f. f.0) (λ f. f.1) (λ f. f.2) bytes are same) none
 
 pub tagged_same : (tag t : ℕ) (content rest : List ℕ) → t ≡ tag → tagged tag (t, content, rest) ≡ Some (content, rest)
 tagged_same tag t content rest e = grind (arith, nat_tests)

@@ -1,5 +1,5 @@
 -- What the fields of a plain update are, and what is no plain update.
-use Rattle.std.proofs.Common.{◌≡◌, ℕ, ◌+◌, ◌<◌, ◌^◌, Bool, true, false, not, nat_eq, nat_lt, codes, lit<, ◌&&◌, List, [], ◌∷◌, ◌++◌, length, drop, All, IfNone, Option, Some, None, refl, ap, sym, ◌∙◌, arith}
+use Rattle.std.proofs.Common.{◌≡◌, ℕ, ◌<◌, ◌^◌, Bool, true, false, not, nat_eq, nat_lt, codes, lit<, List, [], ◌∷◌, ◌++◌, length, drop, IfNone, Option, Some, None, refl, ap, sym, ◌∙◌, arith}
 use Rattle.std.proofs.lemmas.Bool.{and_parts, ltb-true}
 use Rattle.std.proofs.lemmas.Bool.Decides.{nat_tests}
 use Rattle.std.proofs.lemmas.List.{append_cancel_left}
@@ -42,7 +42,7 @@ scheme_is_ascii = ascii_of (λ b. nat_lt b 128) (λ b e. ltb-true b 128 e) (code
 id_is_ascii : (domain segment : List ℕ) → IsDomain domain → IsSegment segment → IsAscii (id_of domain segment)
 id_is_ascii domain segment d s =
     IsAscii-append (codes "spiffe://") (domain ++ 47 ∷ segment) scheme_is_ascii
-        (IsAscii-append domain (47 ∷ segment) (domain_is_ascii domain d) (IsAscii-cons 47 segment (lit< tt) (segment_is_ascii segment s)))
+    (IsAscii-append domain (47 ∷ segment) (domain_is_ascii domain d) (IsAscii-cons 47 segment (lit< tt) (segment_is_ascii segment s)))
 
 pub domain_is_text : (name : List ℕ) → IsDomain name → IsUtf8 name
 domain_is_text name d = IsUtf8-from_ascii name (domain_is_ascii name d)

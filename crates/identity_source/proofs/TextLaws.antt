@@ -1,5 +1,5 @@
 -- What a refused text is refused for.
-use Rattle.std.proofs.Common.{◌≡◌, ℕ, ◌+◌, ◌<◌, ◌≤◌, ◌^◌, ◌⊎◌, true, List, [], length, map, Option, Some, Result, Ok, Err, IfErr, IsErrAnd, refl, arith, inl, inr}
+use Rattle.std.proofs.Common.{◌≡◌, ℕ, ◌+◌, ◌<◌, ◌^◌, true, List, length, map, Option, Some, Result, Ok, Err, IfErr, IsErrAnd, refl, arith, inl, inr}
 use Rattle.identity_source.specs.declared.error.UpdateError.{UpdateError}
 use Rattle.base64_alphabet.specs.Group.{High}
 use Rattle.base64_alphabet.specs.Standard.{standard}

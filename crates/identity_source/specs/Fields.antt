@@ -1,5 +1,5 @@
 -- Reading the fields of a document of one identity and one bundle. That this inverts the spelling of `Document` is proved.
-use Rattle.std.specs.Prelude.{ℕ, ◌==◌, if◌then◌else◌, List, [], ◌∷◌, length, Option, Some, None, option_and_then, option_map}
+use Rattle.std.specs.Prelude.{ℕ, ◌==◌, if◌then◌else◌, List, length, Option, Some, None, option_and_then, option_map}
 use Rattle.der_core.specs.Header.{read_value}
 
 -- a value of this tag: its content, and what follows it
@@ -42,14 +42,14 @@ pub record IdentityFields : Type 0 where
 unfoldable pub identity_in : List ℕ → Option IdentityFields
 identity_in content =
     option_and_then (λ id. option_and_then (λ private. option_and_then (λ private_key.
-        option_map (λ public_key. record { id = id.0; private_key = private_key; public_document = private.1; public_key = public_key })
-            (public_in private.1)) (private_in private.0)) (field 48 id.1)) (field 12 content)
+    option_map (λ public_key. record { id = id.0; private_key = private_key; public_document = private.1; public_key = public_key })
+    (public_in private.1)) (private_in private.0)) (field 48 id.1)) (field 12 content)
 
 -- the contents of the one identity and of the one bundle of a document
 unfoldable pub entries_in : List ℕ → Option (List ℕ × List ℕ)
 entries_in bytes =
     option_and_then (λ update. option_and_then (λ lists. option_and_then (λ identity.
-        option_map (λ bundle. (identity, bundle)) (only 48 lists.1)) (only 48 lists.0)) (two 48 48 update)) (only 48 bytes)
+    option_map (λ bundle. (identity, bundle)) (only 48 lists.1)) (only 48 lists.0)) (two 48 48 update)) (only 48 bytes)
 
 -- the fields of a document
 pub record DocumentFields : Type 0 where
@@ -59,4 +59,4 @@ pub record DocumentFields : Type 0 where
 unfoldable pub document_in : List ℕ → Option DocumentFields
 document_in bytes =
     option_and_then (λ entries. option_and_then (λ identity.
-        option_map (λ bundle. record { identity = identity; bundle = bundle }) (two 12 4 entries.1)) (identity_in entries.0)) (entries_in bytes)
+    option_map (λ bundle. record { identity = identity; bundle = bundle }) (two 12 4 entries.1)) (identity_in entries.0)) (entries_in bytes)

@@ -7,7 +7,11 @@ ghost use Rattle.identity_source.specs.Names.{IsDomain, IsSegment, is_domain_byt
 fn is_domain_character(byte: u8) -> bool
     ensures { result ≡ is_domain_byte byte }
 {
-    byte.is_ascii_lowercase() || byte.is_ascii_digit() || byte == b'.' || byte == b'-' || byte == b'_'
+    byte.is_ascii_lowercase()
+        || byte.is_ascii_digit()
+        || byte == b'.'
+        || byte == b'-'
+        || byte == b'_'
 }
 
 fn is_segment_character(byte: u8) -> bool
@@ -39,7 +43,10 @@ pub(crate) fn is_domain(name: &[u8]) -> bool
 pub(crate) fn is_segment(segment: &[u8]) -> bool
     ensures { IsTrue result ↔ IsSegment segment.now }
 {
-    !segment.is_empty() && segment != b".".as_slice() && segment != b"..".as_slice() && are_segment_characters(segment)
+    !segment.is_empty()
+        && segment != b".".as_slice()
+        && segment != b"..".as_slice()
+        && are_segment_characters(segment)
 }
 
 // What follows the prefix.

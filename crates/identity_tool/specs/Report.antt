@@ -1,11 +1,10 @@
 -- The bytes of a report and of the line of a refusal.
-use Rattle.std.specs.Prelude.{ℕ, List, [], ◌∷◌, ◌++◌, codes, decimal, true}
+use Rattle.std.specs.Prelude.{ℕ, List, ◌++◌, codes, decimal, true}
 use Rattle.sha2.specs.Sha256.{sha256}
 use Rattle.base64_alphabet.specs.Group.{High}
 use Rattle.base64_alphabet.specs.Standard.{standard}
 use Rattle.base64_alphabet.specs.Encoding.{encoding_of}
-use Rattle.base64ct.specs.declared.errors.Error.{Error}
-use Rattle.base64ct.specs.declared.errors.Error.TheVariants as base64
+use Rattle.base64ct.specs.Errors.{error_text}
 use Rattle.der_core.specs.Oid.{oid_text}
 use Rattle.identity_source.specs.Shown.{Shown}
 use Rattle.identity_source.specs.declared.error.UpdateError.{UpdateError}
@@ -15,24 +14,23 @@ use Rattle.identity_source.specs.declared.error.UpdateError.TheVariants.{NotBuil
 abbrev pub fingerprint_of : List ℕ → List ℕ
 fingerprint_of document = encoding_of High standard true (sha256 document)
 
+-- the lines of a report: a revision, an identity with its algorithm and fingerprint, and a bundle without keys
+abbrev pub report_lines : ℕ → List ℕ → List ℕ → List ℕ → List ℕ → List ℕ
+report_lines revision id oid fingerprint domain =
+    codes "revision " ++ (decimal revision
+    ++ (codes "\nidentity " ++ (id ++ (codes " " ++ (oid ++ (codes " " ++ (fingerprint
+    ++ (codes "\nbundle " ++ (domain ++ codes " 0\n")))))))))
+
 -- the report of an update that is published as this revision
 abbrev pub report_of : ℕ → Shown → List ℕ
-report_of revision u =
-    codes "revision " ++ decimal revision
-    ++ codes "\nidentity " ++ u.id ++ codes " " ++ oid_text u.oid ++ codes " " ++ fingerprint_of u.public_document
-    ++ codes "\nbundle " ++ u.domain ++ codes " 0\n"
+report_of revision u = report_lines revision u.id (oid_text u.oid) (fingerprint_of u.public_document) u.domain
 
--- what a line says of a refused text
-abbrev pub text_refusal : Error → List ℕ
-text_refusal base64.InvalidEncoding = codes "invalid Base64 encoding"
-text_refusal base64.InvalidLength = codes "invalid Base64 length"
-text_refusal base64.OutOfMemory = codes "out of memory"
-
+-- what the line of a refusal says
 abbrev pub refusal : UpdateError → List ℕ
-refusal (Text cause) = codes "text: " ++ text_refusal cause
+refusal (Text cause) = codes "text: " ++ error_text cause
 refusal OutOfMemory = codes "out of memory"
 refusal NotBuilt = codes "not built"
 
 -- the line of a refusal
 abbrev pub refusal_line : UpdateError → List ℕ
-refusal_line error = codes "refused: " ++ refusal error ++ codes "\n"
+refusal_line error = codes "refused: " ++ (refusal error ++ codes "\n")

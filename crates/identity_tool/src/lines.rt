@@ -1,9 +1,10 @@
 //! The lines of a report, and of a refusal.
 ghost use Rattle.std.specs.Prelude.{◌≡◌, ◌≢◌, ◌++◌, IfOk, codes, decimal, string_bytes};
+ghost use Rattle.der_core.specs.Oid.{oid_text};
 ghost use Rattle.identity_source.specs.PlainParts.{parts_shown};
-ghost use Rattle.identity_tool.specs.Report.{fingerprint_of, refusal, refusal_line, report_of, text_refusal};
+ghost use Rattle.identity_tool.specs.Report.{fingerprint_of, refusal_line, report_lines, report_of};
 
-use base64ct::Error;
+use base64ct::{Base64, Encoding, Error};
 use identity_source::{PlainParts, UpdateError};
 use sha2::{Digest, Sha256};
 use std::alloc::{AllocError, Global};
@@ -13,8 +14,7 @@ fn fingerprint(alloc: Global, document: &[u8]) -> Result<String, Error>
     ensures { IfOk result (λ text. string_bytes text ≡ fingerprint_of document.now) }
 {
     let digest = Sha256::digest(document);
-    let _ = Vec::from_slice(alloc, digest.as_slice())?;
-    Err(Error::OutOfMemory)
+    Base64::encode_string(alloc, &digest)
 }
 
 /// The report of an update that is published as this revision.
@@ -22,26 +22,24 @@ pub fn report_text(alloc: Global, revision: u64, update: &PlainParts<'_>) -> Res
     ensures { IfOk result (λ text. string_bytes text ≡ report_of revision (parts_shown update.now)) }
 {
     let fingerprint = fingerprint(alloc, update.public_document)?;
-    let text = report_lines(alloc, revision, update, fingerprint.as_str())?;
+    let text = format_report(alloc, revision, update, fingerprint.as_str())?;
     Ok(text)
 }
 
-// The report, with the fingerprint of the public key.
-fn report_lines(alloc: Global, revision: u64, update: &PlainParts<'_>, fingerprint: &str) -> Result<String, AllocError>
-    ensures { fingerprint.now ≡ fingerprint_of update.now.public_document.now
-        → IfOk result (λ text. string_bytes text ≡ report_of revision (parts_shown update.now)) }
+// The report, from the fingerprint of the public key.
+fn format_report(
+    alloc: Global,
+    revision: u64,
+    update: &PlainParts<'_>,
+    fingerprint: &str,
+) -> Result<String, AllocError>
+    ensures { IfOk result (λ text. string_bytes text ≡ report_lines revision (parts_shown update.now).id
+        (oid_text (parts_shown update.now).oid) fingerprint.now (parts_shown update.now).domain) }
 {
-    format!(in alloc; "revision {revision}\nidentity {} {} {fingerprint}\nbundle {} 0\n", update.id, update.oid, update.domain)
-}
-
-fn text_refusal_of(cause: Error) -> &'static str
-    ensures { result.now ≡ text_refusal cause }
-{
-    match cause {
-        Error::InvalidEncoding => "invalid Base64 encoding",
-        Error::InvalidLength => "invalid Base64 length",
-        Error::OutOfMemory => "out of memory",
-    }
+    format!(in alloc;
+        "revision {revision}\nidentity {} {} {fingerprint}\nbundle {} 0\n",
+        update.id, update.oid, update.domain
+    )
 }
 
 /// The line of a refusal. Want of memory has none, and takes the way of one.
@@ -50,7 +48,7 @@ pub fn refusal_text(alloc: Global, error: UpdateError) -> Result<String, AllocEr
     ensures rule { IfOk result (λ _. error ≢ UpdateError.OutOfMemory) }
 {
     match error {
-        UpdateError::Text(cause) => format!(in alloc; "refused: text: {}\n", text_refusal_of(cause)),
+        UpdateError::Text(cause) => format!(in alloc; "refused: text: {cause}\n"),
         UpdateError::NotBuilt => String::from_str(alloc, "refused: not built\n"),
         UpdateError::OutOfMemory => Err(AllocError),
     }

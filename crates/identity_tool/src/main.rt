@@ -29,3 +29,6 @@ fn main(rt: HostRuntime) -> ExitCode {
     let mut out = StdSink::new(io::writer(&rt));
     ExitCode::from(run::run(&rt, rt.alloc(), &words, &mut input, &mut out))
 }
+
+#[cfg(test)]
+mod tests;

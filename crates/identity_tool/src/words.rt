@@ -19,7 +19,11 @@ fn number(text: &str) -> Option<usize>
     match text.parse::<usize>() {
         Ok(n) => {
             let mut buffer = Buffer::new();
-            if buffer.format(n) == text { Some(n) } else { None }
+            if buffer.format(n) == text {
+                Some(n)
+            } else {
+                None
+            }
         }
         Err(_) => None,
     }

@@ -22,9 +22,9 @@ fn texts_and_contents(rt: HostRuntime) -> Result<(), Fail> {
     ];
     for (text, content) in rows {
         let oid = ObjectIdentifier::new(text)?;
-        assert_eq!(rt; oid.as_bytes(), content, "content of {text}");
-        assert_eq!(rt; ObjectIdentifier::from_bytes(content)?, oid, "{text}");
-        assert_eq!(rt; oid.to_string(rt.alloc())?.as_str(), text);
+        assert_eq!(rt; oid.as_bytes(), content);
+        assert_eq!(rt; ObjectIdentifier::from_bytes(content)?, oid);
+        assert_eq!(rt; oid.to_string(rt.alloc())?.as_bytes(), text.as_bytes());
     }
     let oid = ObjectIdentifier::new("2.999.3")?;
     let mut arcs = oid.arcs();

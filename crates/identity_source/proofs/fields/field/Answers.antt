@@ -1,4 +1,4 @@
-use Rattle.std.proofs.Common.{arith, ◌≡◌, ◌<◌, ◌^◌, ◌++◌, length, ◌==◌, false, true, sym, ◌∙◌, refl}
+use Rattle.std.proofs.Common.{arith, sym, ◌∙◌}
 use Rattle.der_core.proofs.Lengths.{IsBytes}
 use Rattle.identity_source.proofs.FieldLaws.{field_is, field_none, tagged_same, tagged_other}
 use Rattle.identity_source.proofs.fields.field.Goals as goal

@@ -1,4 +1,4 @@
-use Rattle.std.proofs.Common.{◌≡◌, ◌++◌, List, ℕ, Bool, true, false, take, length, ap, sym, ◌∙◌}
+use Rattle.std.proofs.Common.{◌≡◌, true, false, take, length, ap, sym, ◌∙◌}
 use Rattle.std.proofs.Math.Seq.{take-append_seam}
 use Rattle.std.specs.Cmp.Lexicographic.{bytes_decides}
 use Rattle.identity_source.proofs.names.strip.Goals as goal

@@ -1,6 +1,5 @@
-use Rattle.std.proofs.Common.{◌≡◌, ◌++◌, ◌∷◌, List, ℕ, Bool, true, false, [], codes, ap, sym, ◌∙◌}
-use Rattle.identity_source.specs.Document.{Fields, IsParts, Parts, fields_of}
-use Rattle.identity_source.specs.Views.{fields_in}
+use Rattle.std.proofs.Common.{◌≡◌, ◌∷◌, true, false, [], codes, ap, sym, ◌∙◌}
+use Rattle.identity_source.specs.Document.{Fields, Parts}
 use Rattle.identity_source.proofs.PlainLaws.{domain_is_text, id_is_text, not_unequal, same_segment}
 use Rattle.identity_source.proofs.plain.show.Goals as goal
 
@@ -35,10 +34,13 @@ returns-clause-plain c =
       oid = c.args.document.now.identity.public_key.oid.now;
       octets = c.args.document.now.identity.private_key.octets.now;
       bits = c.args.document.now.identity.public_key.bits.now;
-    } in
-    (p, record {
-      domain = c.is_domain.ensures.0 c.if-not-is_domain.false;
-      segment = c.is_segment.ensures.0 c.if-not-is_segment.false;
-      oid = c.in-Ok.ensures.content;
-      bits = c.are_bits.ensures.0 c.if-not-are_bits.false;
-    }, cc)
+    } in (
+      p,
+      record {
+        domain = c.is_domain.ensures.0 c.if-not-is_domain.false;
+        segment = c.is_segment.ensures.0 c.if-not-is_segment.false;
+        oid = c.in-Ok.ensures.content;
+        bits = c.are_bits.ensures.0 c.if-not-are_bits.false;
+      },
+      cc,
+    )

@@ -1,5 +1,5 @@
 -- An encoding is one value, so it is what was read.
-use Rattle.std.proofs.Common.{◌≡◌, List, ℕ, [], ◌++◌, sym, ◌∙◌, append-nil}
+use Rattle.std.proofs.Common.{[], sym, ◌∙◌, append-nil}
 use Rattle.der_core.specs.Any.{plain_ref}
 use Rattle.der_core.proofs.Encoded.{encoded_from}
 use Rattle.der_core.proofs.any.Any.encode_from.Goals as goal

@@ -1,8 +1,8 @@
 -- Which contents have the text, step by step.
-use Rattle.std.proofs.Common.{◌≡◌, ◌<◌, ◌≤◌, ◌+◌, ◌^◌, ◌++◌, ◌∷◌, ℕ, List, [], length, true, false, refl, sym, ap, ◌∙◌, arith, append_assoc, length-append, subst, IfNone}
-use Rattle.std.proofs.lemmas.Bool.{eqb-true, eqb-false}
+use Rattle.std.proofs.Common.{◌≡◌, ◌<◌, ◌≤◌, ◌+◌, ◌^◌, ◌++◌, ◌∷◌, ℕ, List, length, sym, ap, ◌∙◌, arith, append_assoc, length-append, subst}
+use Rattle.std.proofs.lemmas.Bool.{eqb-false}
 use Rattle.std.specs.Fmt.{decimal}
-use Rattle.der_core.specs.Oid.{subidentifier_bytes, AreSubidentifiers, IsOidContent, oid_text, second_arc}
+use Rattle.der_core.specs.Oid.{subidentifier_bytes, oid_text, second_arc}
 use Rattle.der_core.proofs.Subidentifiers.{some_bytes}
 use Rattle.der_core.proofs.Texts.{Continues, no_first, no_second, no_joined, continues_first, no_next, no_room, are_push, are_one, text_push, text_one, continues_next, continues_length, if_none}
 use Rattle.der_core.proofs.oid.text.content_of.Goals as goal

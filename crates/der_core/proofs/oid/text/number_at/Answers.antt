@@ -1,8 +1,8 @@
 -- Reading digits goes on as at the first byte, until it ends.
-use Rattle.std.proofs.Common.{◌≡◌, ◌<◌, ◌≤◌, ◌+◌, ◌-◌, ◌*◌, ◌^◌, ℕ, List, [], length, get_or, take, drop, refl, sym, ap, ◌∙◌, arith, Some}
+use Rattle.std.proofs.Common.{◌≡◌, ◌<◌, ◌≤◌, ◌-◌, ℕ, List, [], length, get_or, take, drop, sym, ap, ◌∙◌, arith}
 use Rattle.std.proofs.lemmas.Bool.{eqb-true}
 use Rattle.std.proofs.lemmas.List.{take_all, drop_all, length-drop, nil_from_length}
-use Rattle.der_core.proofs.Decimals.{digits_from, digits_found, digits_none, digits_end_at, digits_none_at, digits_more_at, digits_all_at, number_head, leading_zero, zero_found}
+use Rattle.der_core.proofs.Decimals.{digits_found, digits_none, digits_end_at, digits_none_at, digits_more_at, digits_all_at, number_head, leading_zero, zero_found}
 use Rattle.der_core.proofs.oid.text.number_at.Goals as goal
 use Rattle.der_core.proofs.oid.text.number_at.Goals.{then-is_empty-via-then-is_empty, then-is_empty-via-else-is_empty+then-not-is_digit}
 

@@ -1,7 +1,6 @@
 -- What the map has at the path.
-use Rattle.std.proofs.Common.{◌≡◌, ◌<◌, ◌≤◌, ℕ, List, Some, None, Option, option_map, length, refl, sym, ap, subst, ◌∙◌, arith}
+use Rattle.std.proofs.Common.{◌≡◌, ◌<◌, ℕ, List, Some, Option, option_map, length, sym, ap, subst, ◌∙◌, arith}
 use Rattle.std.specs.Prelude.{IsSomeAnd}
-use Rattle.std.specs.Vec.{vec_len}
 use Rattle.identity_io.specs.Files.{Shelf, file_at}
 use Rattle.identity_io.proofs.Shelves.{seen, file_at_seen}
 use Rattle.identity_io.proofs.memory_disk.MemoryDiskDisk.read_file.Goals as goal

@@ -1,0 +1,3 @@
+pub mod Url
+pub mod Bcrypt
+pub mod Pbkdf2

@@ -1,0 +1,15 @@
+//! Further alphabets of Base64: the one safe in URLs, with padding and without, and those of bcrypt,
+//! `crypt` and PBKDF2. They stand apart from `base64_alphabet`, which has what an alphabet is.
+#![tactic(auto)]
+
+mod bcrypt;
+mod crypt;
+mod pbkdf2;
+#[cfg(test)]
+mod tests;
+mod url;
+
+pub use crate::bcrypt::Base64Bcrypt;
+pub use crate::crypt::Base64Crypt;
+pub use crate::pbkdf2::Base64Pbkdf2;
+pub use crate::url::{Base64Url, Base64UrlUnpadded};

@@ -1,0 +1,4 @@
+pub mod MapEntries
+pub mod StoredEntries
+pub mod KeySets
+pub mod Loops

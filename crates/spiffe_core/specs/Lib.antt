@@ -1,0 +1,6 @@
+pub mod Entries
+pub mod JwtBundleError
+pub mod JwtAuthority
+pub mod KeySet
+pub mod JwtBundle
+pub mod JwtBundleSet

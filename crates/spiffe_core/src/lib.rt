@@ -1,0 +1,29 @@
+//! SPIFFE identifiers, JWT authorities and trust bundles as they pass between workloads: parsed once,
+//! kept in canonical form, and shared between threads.
+#![tactic(auto)]
+
+mod bundle_source;
+mod bundles;
+mod error;
+mod jwt_authorities;
+mod jwt_authority;
+mod jwt_bundle;
+mod jwt_bundle_set;
+mod threads;
+
+pub use bundle_source::BundleSource;
+pub use bundles::Bundles;
+pub use error::JwtBundleError;
+pub use jwt_authorities::JwtAuthorities;
+pub use jwt_authority::JwtAuthority;
+pub use jwt_bundle::JwtBundle;
+pub use jwt_bundle_set::JwtBundleSet;
+pub use spiffe_id::{
+    DEFAULT_SVID, SPIFFE_SCHEME, SPIFFE_SCHEME_PREFIX, SPIFFE_SOCKET_ENV, SpiffeId, SpiffeIdError,
+    TrustDomain, have_same_text, reread_id, reread_trust_domain, reread_trust_domain_id,
+    uri_has_spiffe_scheme,
+};
+pub use spiffe_json::JsonError;
+
+#[cfg(test)]
+mod tests;
