@@ -1,11 +1,11 @@
 -- What one field says of the fields that it stands before.
-use Rattle.std.proofs.Common.{◌≡◌, ◌↔◌, ℕ, zero, suc, ◌+◌, ◌<◌, ◌≤◌, ◌^◌, List, [], ◌∷◌, ◌++◌, length, Bool, true, false, eqb, refl, sym, ap, subst, ◌∙◌, arith, length-append}
+use Rattle.std.proofs.Common.{◌≡◌, ◌↔◌, ℕ, zero, suc, ◌+◌, ◌<◌, ◌≤◌, ◌^◌, List, [], ◌∷◌, ◌++◌, length, true, eqb, refl, sym, ap, ◌∙◌, arith, length-append}
 use Rattle.std.proofs.lemmas.Bool.{eqb-true}
 use Rattle.std.proofs.lemmas.List.{append-nil}
 use Rattle.der_core.specs.Der.{IsTag, IsValue, encode}
 use Rattle.der_core.proofs.Tagged.{same_value}
 use Rattle.der_core.proofs.Values.{length_encode}
-use Rattle.pkcs8.specs.Extensions.{Extension, Extensions, IsExtensions}
+use Rattle.pkcs8.specs.Extensions.{Extensions, IsExtensions}
 
 pub is_empty_true : (s : List ℕ) → eqb (length s) 0 ≡ true → s ≡ []
 is_empty_true [] e = refl

@@ -1,19 +1,16 @@
 -- Where the parts of a private key cannot be read, there is none.
-use Rattle.std.proofs.Common.{◌≡◌, ◌↔◌, ℕ, ◌+◌, ◌<◌, ◌≤◌, ◌^◌, ◌⊎◌, List, [], ◌∷◌, ◌++◌, length, get_or, Bool, true, false, Option, Some, None, refl, sym, ap, subst, ◌∙◌, inl, inr, arith}
-use Rattle.std.proofs.lemmas.List.{append-nil}
-use Rattle.der_core.specs.Der.{IsTag, IsValue, length_bytes, encode}
-use Rattle.der_core.specs.Decode.{Front, NoFront, ReadsTagged, ReadsAny, ReadsTagged-one_value}
-use Rattle.der_core.specs.Sequence.{Then}
-use Rattle.der_core.specs.Tags.{tag_2, tag_48, tag_129, tag_160}
+use Rattle.std.proofs.Common.{◌≡◌, ◌↔◌, ℕ, ◌+◌, ◌<◌, ◌^◌, List, [], ◌++◌, length, get_or, Bool, true, false, Option, Some, None, refl, sym, ap, subst, ◌∙◌, inl, inr, arith}
+use Rattle.der_core.specs.Der.{IsTag, IsValue, encode}
+use Rattle.der_core.specs.Decode.{Front, NoFront, ReadsTagged, ReadsTagged-one_value}
+use Rattle.der_core.specs.Tags.{tag_2, tag_129, tag_160}
 use Rattle.der_core.proofs.Values.{encode_append}
 use Rattle.der_core.proofs.Tagged.{same_value}
 use Rattle.der_core.proofs.Sequences.{then_same, then_none, field_same}
 use Rattle.pkcs8.specs.Extensions.{IsExtensions}
 use Rattle.pkcs8.specs.Version.{version_byte, version_of}
-use Rattle.pkcs8.specs.PrivateKey.{ReadsVersion, AfterAttributes, AfterKey, BeginsWith, IsAttributes, PrivateKeyFields}
+use Rattle.pkcs8.specs.PrivateKey.{ReadsVersion, AfterAttributes, AfterKey, BeginsWith, PrivateKeyFields}
 use Rattle.pkcs8.specs.declared.version.Version.{Version}
 use Rattle.pkcs8.specs.declared.version.Version.TheVariants.{V1, V2}
-use Rattle.pkcs8.proofs.Fields.{no_field}
 
 pub unless : {P : Type 0} (b : Bool) → (b ≡ true) ↔ P → b ≡ false → P → ⊥
 unless true iff e p = cc

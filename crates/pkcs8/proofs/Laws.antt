@@ -1,5 +1,5 @@
 -- What is written of a private key is read again.
-use Rattle.std.proofs.Common.{◌≡◌, ℕ, ◌+◌, ◌<◌, ◌≤◌, ◌^◌, List, [], ◌∷◌, ◌++◌, length, Option, Some, None, IfSome, inl, inr, refl, sym, ap, subst, ◌∙◌, arith, append_assoc, append-nil}
+use Rattle.std.proofs.Common.{◌≡◌, ℕ, ◌+◌, ◌<◌, ◌^◌, List, [], ◌∷◌, ◌++◌, length, Option, Some, None, IfSome, inl, inr, refl, sym, subst, ◌∙◌, arith, append_assoc, append-nil}
 use Rattle.der_core.specs.Decode.{ReadsTagged}
 use Rattle.der_core.specs.Der.{encode}
 use Rattle.der_core.specs.Laws.{content_fits, tagged_encoding_reads}
@@ -7,11 +7,10 @@ use Rattle.der_small.specs.Bits.{PlainBits, BitsContent}
 use Rattle.spki.specs.Algorithm.{AlgorithmContent, algorithm_content}
 use Rattle.spki.specs.AlgorithmLaws.{algorithm_content_reads}
 use Rattle.spki.specs.Parts.{front_fits, rest_fits}
-use Rattle.spki.specs.PlainAlgorithm.{IsAlgorithm, ReadsAlgorithm, algorithm_der}
-use Rattle.pkcs8.specs.Extensions.{IsExtensions}
+use Rattle.spki.specs.PlainAlgorithm.{ReadsAlgorithm, algorithm_der}
 use Rattle.pkcs8.specs.Version.{version_byte, version_of}
-use Rattle.pkcs8.specs.PlainPrivateKey.{PlainPrivateKey, ReadsOctets, ReadsPrivateKey, PlainKeyContent, bits_content, private_key_der}
-use Rattle.pkcs8.specs.PrivateKey.{AfterAttributes, AfterKey, BeginsWith, PrivateKeyFields, public_field, fields_written}
+use Rattle.pkcs8.specs.PlainPrivateKey.{PlainPrivateKey, ReadsOctets, ReadsPrivateKey, bits_content, private_key_der}
+use Rattle.pkcs8.specs.PrivateKey.{AfterKey, BeginsWith, PrivateKeyFields, public_field, fields_written}
 use Rattle.pkcs8.specs.PrivateKeyInfo.{PrivateKeyContent, private_key_content, private_key_encoding}
 use Rattle.pkcs8.specs.ReadLaws.{reads_one_private_key}
 use Rattle.pkcs8.specs.declared.private_key_info.PrivateKeyInfo.{PrivateKeyInfo}

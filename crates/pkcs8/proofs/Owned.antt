@@ -1,24 +1,18 @@
 -- The owned form reads what the borrowed one reads.
-use Rattle.std.proofs.Common.{◌≡◌, ℕ, ◌<◌, ◌^◌, List, [], ◌∷◌, ◌++◌, length, Option, Some, None, option_map, inl, inr, refl, sym}
+use Rattle.std.proofs.Common.{◌≡◌, ℕ, List, ◌∷◌, Option, Some, None, option_map, inl, inr}
 use Rattle.der_core.specs.Any.{plain_ref}
 use Rattle.der_core.specs.Decode.{ReadsTagged}
-use Rattle.der_core.specs.Der.{IsValue, encode}
-use Rattle.der_core.specs.Laws.{content_fits}
-use Rattle.der_core.specs.Sequence.{Then}
 use Rattle.der_core.specs.declared.any.AnyRef.{AnyRef}
 use Rattle.der_core.proofs.Owned.{SameReads, same_tagged}
-use Rattle.der_small.specs.Bits.{PlainBits, AreBits, BitsContent}
+use Rattle.der_small.specs.Bits.{BitsContent}
 use Rattle.der_small.specs.BitString.{plain_bits_ref}
 use Rattle.der_small.specs.OctetString.{octets_ref}
 use Rattle.der_small.specs.declared.bit_string.BitStringRef.{BitStringRef}
 use Rattle.der_small.specs.declared.octet_string.OctetStringRef.{OctetStringRef}
-use Rattle.spki.specs.PlainAlgorithm.{PlainAlgorithm, ReadsAlgorithm, plain_algorithm}
-use Rattle.spki.specs.declared.algorithm.AlgorithmIdentifier.{AlgorithmIdentifier}
+use Rattle.spki.specs.PlainAlgorithm.{ReadsAlgorithm, plain_algorithm}
 use Rattle.spki.proofs.Owned.{BorrowsAny, ReadsAlgorithmRef, algorithm_plain, same_algorithms}
-use Rattle.pkcs8.specs.Extensions.{IsExtensions}
-use Rattle.pkcs8.specs.PlainPrivateKey.{PlainPrivateKey, PlainKeyContent, ReadsOctets, ReadsPrivateKey, plain_private_key_ref}
+use Rattle.pkcs8.specs.PlainPrivateKey.{PlainKeyContent, ReadsOctets, ReadsPrivateKey, plain_private_key_ref}
 use Rattle.pkcs8.specs.PrivateKey.{AfterAttributes, AfterKey, PrivateKeyFields}
-use Rattle.pkcs8.specs.PrivateKeyInfo.{PrivateKeyContent}
 use Rattle.pkcs8.specs.declared.private_key_info.PrivateKeyInfo.{PrivateKeyInfo}
 
 -- What stands behind the private key, over what the public key is seen as.

@@ -1,5 +1,5 @@
 -- The answers of types that are read from documents or written as such.
-use Rattle.std.specs.Prelude.{◌≡◌, ◌⊎◌, ℕ, ◌≤◌, ◌<◌, ◌^◌, nat_lt, if◌then◌else◌, List, length, Result, Ok, Err}
+use Rattle.std.specs.Prelude.{◌≡◌, ◌⊎◌, ℕ, ◌≤◌, ◌^◌, nat_lt, if◌then◌else◌, List, length, Result, Ok, Err}
 use Rattle.der_core.specs.Decode.{NoFront, Trails}
 use Rattle.der_core.specs.declared.error.Error.TheVariants as der
 use Rattle.spki.specs.declared.error.Error.TheVariants as spki

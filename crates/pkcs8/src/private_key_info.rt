@@ -1,5 +1,5 @@
 //! Private keys.
-ghost use Rattle.std.specs.Prelude.{◌≡◌, ℕ, List, MatchResult, None};
+ghost use Rattle.std.specs.Prelude.{◌≡◌, MatchResult, None};
 ghost use Rattle.der_core.specs.Decode.{FromDerOwned};
 ghost use Rattle.der_core.specs.Tags.{tag_48};
 ghost use Rattle.pkcs8.specs.PlainPrivateKey.{plain_private_key, plain_private_key_ref, ReadsPrivateKey};

@@ -1,5 +1,5 @@
 //! Types that are read from private key documents or written as such.
-ghost use Rattle.std.specs.Prelude.{◌≡◌, ◌∷◌, ℕ, List, Result as Answer, Err};
+ghost use Rattle.std.specs.Prelude.{◌≡◌, ℕ, List, Result as Answer, Err};
 ghost use Rattle.der_small.specs.BitString.{plain_bits_ref, plain_bits};
 ghost use Rattle.der_small.specs.SecretDocument.{secret_bytes};
 ghost use Rattle.pkcs8.specs.Answers.{IsOfAFile, GivesValue, GivesBytes};

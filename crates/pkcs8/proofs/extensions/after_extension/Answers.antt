@@ -1,6 +1,6 @@
-use Rattle.std.proofs.Common.{rules, ◌≡◌, ◌<◌, ◌≤◌, ◌++◌, ◌^◌, ◌↔◌, length, refl, sym, ap, ◌∙◌, arith}
-use Rattle.der_core.specs.Der.{IsValue, encode}
-use Rattle.pkcs8.proofs.Fields.{FirstField, first_field, with_field, no_field, shorter}
+use Rattle.std.proofs.Common.{◌≡◌, ◌≤◌, ◌∙◌, arith}
+use Rattle.der_core.specs.Der.{IsValue}
+use Rattle.pkcs8.proofs.Fields.{first_field, with_field, no_field, shorter}
 use Rattle.pkcs8.proofs.Keys.{unless}
 use Rattle.pkcs8.proofs.extensions.after_extension.Goals as goal
 

@@ -1,4 +1,4 @@
-use Rattle.std.proofs.Common.{◌≡◌, ◌∙◌}
+use Rattle.std.proofs.Common.{◌∙◌}
 use Rattle.pkcs8.specs.Extensions.{IsExtensions}
 use Rattle.pkcs8.proofs.Keys.{public_field, unless}
 use Rattle.pkcs8.proofs.tail.after_attributes.Goals as goal
