@@ -1,4 +1,4 @@
 pub mod Fields
 pub mod Keys
 pub mod Owned
-pub mod Laws
+pub mod WrittenKeys

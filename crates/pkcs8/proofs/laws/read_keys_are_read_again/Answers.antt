@@ -1,4 +1,4 @@
-use Rattle.pkcs8.proofs.Laws.{written_plain, read_again}
+use Rattle.pkcs8.proofs.WrittenKeys.{written_plain, read_again}
 use Rattle.pkcs8.proofs.laws.read_keys_are_read_again.Goals as goal
 
 pub returns-clause-written : goal.returns-clause-written

@@ -1,5 +1,5 @@
 use Rattle.std.proofs.Common.{rules}
-use Rattle.pkcs8.proofs.Laws.{written_key}
+use Rattle.pkcs8.proofs.WrittenKeys.{written_key}
 use Rattle.pkcs8.proofs.laws.written_keys_are_read.Goals as goal
 
 pub returns : goal.returns
