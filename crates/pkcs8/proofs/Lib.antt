@@ -1,4 +1,0 @@
-pub mod Fields
-pub mod Keys
-pub mod Owned
-pub mod WrittenKeys
