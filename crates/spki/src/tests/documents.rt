@@ -9,7 +9,7 @@ use std::test::Fail;
 
 // An Ed25519 key (RFC 8410, section 4): the document of the specification's example, whose fingerprint is
 // `openssl dgst -sha256 -binary | base64` of it.
-const ED25519: &str = "MCowBQYDK2VwAyEATSkWfz8ZEqb2rfopOgUaFcBexnuPFycbHFVQ3OhTvQ0=";
+const ED25519: &str = "MCowBQYDK2VwAyEATSkWfz8ZEqb3rfopOgUaFcBexnuPFyZ7HFVQ3OhTvQ0=";
 
 const FINGERPRINT: &str = "Vd1MdLDkhTTi9OFzzs61DfjyenrCqomRzHrpFOAwvO0=";
 
