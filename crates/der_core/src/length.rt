@@ -1,4 +1,5 @@
 //! Lengths.
+use crate::{Error, Result};
 use std::marker::Model;
 
 /// How many bytes a content or an encoding has.
@@ -18,7 +19,7 @@ impl Model for Length {
 }
 
 impl Length {
-    ghost use Rattle.std.specs.Prelude.{◌≡◌};
+    ghost use Rattle.std.specs.Prelude.{◌≡◌, ◌+◌, ◌≤◌, ◌^◌, MatchResult};
 
     /// A count of bytes.
     pub const fn new(n: u32) -> Length
@@ -32,5 +33,15 @@ impl Length {
         ensures { result ≡ self.now }
     {
         self.number
+    }
+
+    /// The length of two fields, one behind the other.
+    pub fn checked_add(self, other: Length) -> Result<Length>
+        ensures { MatchResult result (λ n. n ≡ self + other) (λ e. (e ≡ Error.Overlength) × (2 ^ 32 ≤ self + other)) }
+    {
+        match self.number.checked_add(other.number) {
+            Some(number) => Ok(Length { number }),
+            None => Err(Error::Overlength),
+        }
     }
 }
