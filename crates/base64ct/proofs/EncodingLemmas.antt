@@ -1,5 +1,5 @@
 -- An encoding by its whole groups and its rest.
-use Rattle.std.proofs.Common.{◌≡◌, ℕ, ◌+◌, ◌-◌, ◌*◌, ◌/◌, ◌%◌, ◌≤◌, Bool, true, false, List, [], ◌∷◌, ◌++◌, length, take, drop, arith, refl, ap, sym, ◌∙◌, length-append, replicate}
+use Rattle.std.proofs.Common.{◌≡◌, ℕ, ◌+◌, ◌-◌, ◌*◌, ◌/◌, ◌%◌, ◌≤◌, Bool, true, false, List, [], ◌∷◌, ◌++◌, length, take, drop, arith, refl, ap, sym, ◌∙◌, length-append, replicate, Result, Ok, Err, IfOk}
 use Rattle.std.proofs.lemmas.Grind.{common_steps}
 use Rattle.std.proofs.lemmas.List.{take-append-drop, take_at}
 use Rattle.std.proofs.lemmas.Slice.{take-put_mid}
@@ -29,6 +29,12 @@ length-encoding_of end table b false =
     let e = length-append (characters end table b) [] in
     let l = length-all_characters end table b in
     omega arith
+
+-- the length of an encoding that was made
+pub length-of_text : {T E : Type 0} (text_of : T → List ℕ) (end : End) (table b : List ℕ) (padded : Bool) (r : Result T E)
+    → IfOk r (λ text. text_of text ≡ encoding_of end table padded b) → IfOk r (λ text. length (text_of text) ≡ encoded_len padded (length b))
+length-of_text text_of end table b padded (Ok text) is = ap length is ∙ length-encoding_of end table b padded
+length-of_text text_of end table b padded (Err e) is = is
 
 pub empty_encoding : (end : End) (table : List ℕ) (padded : Bool) → encoding_of end table padded [] ≡ []
 unfolding characters

@@ -4,7 +4,7 @@
 ghost use Rattle.std.specs.Prelude.{◌≡◌, ℕ, ◌<◌, ◌≤◌, ◌+◌, ◌*◌, ◌^◌, ◌↔◌, ◌⊎◌, List, length, string_bytes, nat_lt, true, is_ok, Err, IsOk, IsErr, IfOk, IfErr, OnErr, IsOkAnd, if◌then◌else◌};
 ghost use Rattle.base64_alphabet.specs.Encoding.{encoding_of};
 ghost use Rattle.base64ct.specs.Canonical.{IsBytes, IsNoEncoding, IsDecodeError, IsDecodeVecError, IsEncodeStringError, is_clean, loose_bytes, unpadded_len, has_lengths, has_whole_blocks};
-ghost use Rattle.base64ct.specs.Counts.{decode_count, loose_count, encode_count};
+ghost use Rattle.base64ct.specs.Counts.{decode_count, loose_count, encode_count, encoded_len as len_of};
 
 use crate::decode_text::{decode_counting, decode_into, decode_to_vec};
 use crate::encode_text::{
@@ -83,6 +83,7 @@ pub trait Encoding: Alphabet {
     /// number exceeds `usize`.
     fn encode_string(alloc: Global, input: &[u8]) -> Result<String, Error>
         ensures ok { IfOk result (λ text. string_bytes text ≡ encoding_of Self.end Self.table Self.PADDED input.now) }
+        ensures len { IfOk result (λ text. length (string_bytes text) ≡ len_of Self.PADDED (length input.now)) }
         ensures err { IfErr result (IsEncodeStringError (length input.now)) }
         ensures too_long { (result ≡ Err Error.InvalidLength) ↔ (2 ^ 64 ≤ 4 * length input.now) }
     {

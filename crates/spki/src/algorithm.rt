@@ -10,7 +10,6 @@ ghost use Rattle.spki.specs.AlgorithmLaws.{algorithm_reads_content, algorithm_co
 ghost use Rattle.spki.specs.AlgorithmOids.{ParametersOid, AreOids, WantedParameters, WantedOids};
 ghost use Rattle.spki.specs.PlainAlgorithm.{plain_algorithm, ReadsAlgorithm};
 
-use crate::length::both_lengths;
 use crate::{Error, Result};
 use der_small::{
     Any, AnyRef, Choice, Cursor, Decode, DecodeValue, DerOrd, Encode, EncodeValue, FixedTag,
@@ -88,7 +87,7 @@ impl<Params: Encode> EncodeValue for AlgorithmIdentifier<Params> {
             None => Length::new(0),
             Some(parameters) => parameters.encoded_len()?,
         };
-        both_lengths(oid, parameters)
+        oid.checked_add(parameters)
     }
 
     fn encode_value<W: Writer>(&self, writer: &mut W) -> der_small::Result<()> {

@@ -6,7 +6,6 @@ mod digest;
 mod error;
 mod key_file;
 mod laws;
-mod length;
 mod spki;
 mod traits;
 

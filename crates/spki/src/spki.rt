@@ -7,7 +7,6 @@ ghost use Rattle.spki.specs.PlainPublicKey.{plain_public_key, plain_public_key_r
 ghost use Rattle.spki.specs.PublicKey.{PublicKeyContent, public_key_content};
 ghost use Rattle.spki.specs.PublicKeyLaws.{public_key_reads_content, public_key_content_reads};
 
-use crate::length::both_lengths;
 use crate::{
     AlgorithmIdentifier, DecodePublicKey, DigestWriter, EncodePublicKey, Error, FingerprintBytes,
     Result,
@@ -77,10 +76,8 @@ impl<Params: Encode, Key: Encode> EncodeValue for SubjectPublicKeyInfo<Params, K
     ghost content = { public_key_content Params.encoding Key.encoding };
 
     fn value_len(&self) -> der_small::Result<Length> {
-        both_lengths(
-            self.algorithm.encoded_len()?,
-            self.subject_public_key.encoded_len()?,
-        )
+        let algorithm = self.algorithm.encoded_len()?;
+        algorithm.checked_add(self.subject_public_key.encoded_len()?)
     }
 
     fn encode_value<W: Writer>(&self, writer: &mut W) -> der_small::Result<()> {
