@@ -7,4 +7,5 @@ pub mod PlainPrivateKey
 pub mod PrivateKey
 pub mod PrivateKeyInfo
 pub mod ReadLaws
+pub mod Shown
 pub mod Version

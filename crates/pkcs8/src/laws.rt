@@ -12,6 +12,7 @@ ghost use Rattle.pkcs8.specs.declared.private_key_info.PrivateKeyInfo.{PrivateKe
 
 use crate::{BitStringLike, PrivateKeyInfo, PrivateKeyInfoOwned, PrivateKeyInfoRef};
 use der_small::{Choice, Decode, FixedTag, LawfulValue};
+use std::fmt;
 
 /// What is written of a private key is read as that key, of whatever lawful types its parts are.
 pub fn written_keys_are_read<
@@ -33,4 +34,9 @@ pub fn read_keys_are_read_again()
 pub fn equal_keys_have_equal_parts()
     ensures borrowed { (a b : KeyOf AnyRefValue OctetsRefValue BitsRefValue) → (⟦<PrivateKeyInfoRef<'static> as PartialEq>⟧.eq a b ≡ true) ↔ (plain_private_key_ref a ≡ plain_private_key_ref b) }
     ensures owned { (a b : KeyOf AnyValue OctetsValue BitsValue) → (⟦<PrivateKeyInfoOwned as PartialEq>⟧.eq a b ≡ true) ↔ (plain_private_key a ≡ plain_private_key b) }
+{}
+
+/// What `Debug` shows of a private key is the same of keys whose private octets alone differ.
+pub fn shown_keys_hide_private_octets<Params: fmt::Debug, Key, PubKey: fmt::Debug>()
+    ensures { (a b : KeyOf Params Key PubKey) → a.algorithm ≡ b.algorithm → a.public_key ≡ b.public_key → ⟦<PrivateKeyInfo<Params, Key, PubKey> as fmt::Debug>⟧.debug_output a ≡ ⟦<PrivateKeyInfo<Params, Key, PubKey> as fmt::Debug>⟧.debug_output b }
 {}

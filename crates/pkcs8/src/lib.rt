@@ -5,14 +5,16 @@ mod error;
 mod extensions;
 mod key_file;
 mod laws;
-mod length;
 mod private_key_info;
 mod tail;
 mod traits;
 mod version;
 
 pub use error::{Error, KeyError, Result};
-pub use laws::{equal_keys_have_equal_parts, read_keys_are_read_again, written_keys_are_read};
+pub use laws::{
+    equal_keys_have_equal_parts, read_keys_are_read_again, shown_keys_hide_private_octets,
+    written_keys_are_read,
+};
 pub use private_key_info::{PrivateKeyInfo, PrivateKeyInfoOwned, PrivateKeyInfoRef};
 pub use traits::{BitStringLike, DecodePrivateKey, EncodePrivateKey};
 pub use version::Version;

@@ -6,7 +6,6 @@ ghost use Rattle.pkcs8.specs.PlainPrivateKey.{plain_private_key, plain_private_k
 ghost use Rattle.pkcs8.specs.PrivateKeyInfo.{PrivateKeyContent, private_key_content};
 ghost use Rattle.pkcs8.specs.Version.{version_of};
 
-use crate::length::total_length;
 use crate::tail::{PUBLIC_KEY, after_key};
 use crate::{BitStringLike, DecodePrivateKey, EncodePrivateKey, Error, Result, Version};
 use der_small::{
@@ -115,9 +114,9 @@ impl<Params: Encode, Key: EncodeValue + FixedTag, PubKey: BitStringLike> EncodeV
             None => Length::new(0),
             Some(public_key) => tagged_len(PUBLIC_KEY, &public_key.as_bit_string())?,
         };
-        let two = total_length(version, algorithm)?;
-        let three = total_length(two, private_key)?;
-        total_length(three, public_key)
+        let two = version.checked_add(algorithm)?;
+        let three = two.checked_add(private_key)?;
+        three.checked_add(public_key)
     }
 
     fn encode_value<W: Writer>(&self, writer: &mut W) -> der_small::Result<()> {
@@ -134,13 +133,19 @@ impl<Params: Encode, Key: EncodeValue + FixedTag, PubKey: BitStringLike> EncodeV
 
 impl<Params: fmt::Debug, Key, PubKey: fmt::Debug> fmt::Debug
     for PrivateKeyInfo<Params, Key, PubKey> {
+    ghost use Rattle.pkcs8.specs.Shown.{key_debug};
+
+    // The private key is no part of it.
+    ghost debug_output = { λ v. key_debug Params.debug_output PubKey.debug_output v.algorithm v.public_key };
+
     fn fmt<W: fmt::Write>(&self, f: &mut fmt::Formatter<W>) -> fmt::Result {
         let version = self.version();
-        let algorithm = &self.algorithm;
+        let oid = self.algorithm.oid;
+        let parameters = &self.algorithm.parameters;
         let public_key = &self.public_key;
         write!(
             f,
-            "PrivateKeyInfo {{ version: {version:?}, algorithm: {algorithm:?}, public_key: {public_key:?} }}"
+            "PrivateKeyInfo {{ version: {version:?}, algorithm: AlgorithmIdentifier {{ oid: {oid}, parameters: {parameters:?} }}, public_key: {public_key:?} }}"
         )
     }
 }

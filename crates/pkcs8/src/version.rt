@@ -5,9 +5,10 @@ ghost use Rattle.pkcs8.specs.Version.{version_byte};
 
 use crate::Error;
 use der_small::{Cursor, DecodeValue, EncodeValue, FixedTag, LawfulValue, Length, Tag, Writer};
+use std::fmt;
 
 /// The version of a private key (RFC 5958, section 2).
-#[derive(Clone, Copy, Debug, PartialEq, Eq)]
+#[derive(Clone, Copy, PartialEq, Eq)]
 pub enum Version {
     /// A key without its public key, as RFC 5208 has it.
     V1 = 0,
@@ -23,6 +24,20 @@ impl Version {
         match self {
             Version::V1 => false,
             Version::V2 => true,
+        }
+    }
+}
+
+impl fmt::Debug for Version {
+    ghost use Rattle.std.specs.Prelude.{Some};
+    ghost use Rattle.pkcs8.specs.Shown.{version_debug};
+
+    ghost debug_output = { λ v. Some (version_debug v) };
+
+    fn fmt<W: fmt::Write>(&self, f: &mut fmt::Formatter<W>) -> fmt::Result {
+        match self {
+            Version::V1 => write!(f, "V1"),
+            Version::V2 => write!(f, "V2"),
         }
     }
 }

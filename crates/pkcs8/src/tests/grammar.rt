@@ -1,11 +1,16 @@
-use crate::{Error, KeyError, PrivateKeyInfoOwned, PrivateKeyInfoRef, Version};
+use crate::{PrivateKeyInfoOwned, PrivateKeyInfoRef, Version};
 use der_small::{Decode, Encode};
 use std::alloc::{AllocError, Global};
 use std::test::Fail;
 
-/// The bytes that two hexadecimal digits each stand for.
-fn bytes_of(alloc: Global, text: &str) -> Result<Vec<u8>, AllocError> {
-    let mut bytes = Vec::new(alloc);
+/// The algorithm and the octet string of an Ed25519 key (RFC 8410, section 7) with 32 octets 11.
+const KEY: &str = "300506032b6570042204201111111111111111111111111111111111111111111111111111111111111111";
+
+/// A field 81 with a public key of 32 octets.
+const PUBLIC_KEY: &str = "8121004d29167f3f1912a6f7adfa293a051a15c05ec67b8f17267b1c5550dce853bd0d";
+
+/// Adds the bytes that two hexadecimal digits each stand for.
+fn push_bytes(bytes: &mut Vec<u8>, text: &str) -> Result<(), AllocError> {
     let mut high = None;
     for digit in text.bytes() {
         let value = match digit {
@@ -21,185 +26,137 @@ fn bytes_of(alloc: Global, text: &str) -> Result<Vec<u8>, AllocError> {
             }
         };
     }
+    Ok(())
+}
+
+/// A document of the key: what stands before its algorithm, and the fields behind its octets.
+fn document(alloc: Global, head: &str, fields: &[&str; 3]) -> Result<Vec<u8>, AllocError> {
+    let mut bytes = Vec::new(alloc);
+    push_bytes(&mut bytes, head)?;
+    push_bytes(&mut bytes, KEY)?;
+    for field in fields {
+        push_bytes(&mut bytes, field)?;
+    }
     Ok(bytes)
 }
 
-// One Ed25519 key (RFC 8410, section 7), with 32 octets 11, in each form that the grammar knows: its document,
-// the version, and whether a public key is held. The rules are those of RFC 5958, section 2.
+// The rules are those of RFC 5958, section 2. Attributes and extensions are not written.
 #[test]
 fn documents_of_every_form(rt: HostRuntime) -> Result<(), Fail> {
     let rows = [
-        (
-            "302e020100300506032b6570042204201111111111111111111111111111111111111111111111111111111111111111",
-            Version::V1,
-        ),
+        // the plain key of each version
+        ("302e020100", ["", "", ""], Version::V1),
+        ("3051020101", ["", PUBLIC_KEY, ""], Version::V2),
         // attributes, whose content is not read
-        (
-            "3030020100300506032b6570042204201111111111111111111111111111111111111111111111111111111111111111a000",
-            Version::V1,
-        ),
-        // attributes whose content is no value
-        (
-            "3032020100300506032b6570042204201111111111111111111111111111111111111111111111111111111111111111a002ffff",
-            Version::V1,
-        ),
+        ("3030020100", ["a000", "", ""], Version::V1),
+        ("3032020100", ["a002ffff", "", ""], Version::V1),
+        ("3053020101", ["a000", PUBLIC_KEY, ""], Version::V2),
         // a public key without octets
-        (
-            "3031020101300506032b6570042204201111111111111111111111111111111111111111111111111111111111111111810100",
-            Version::V2,
-        ),
+        ("3031020101", ["", "810100", ""], Version::V2),
         // an extension under a second tag A0
-        (
-            "3034020100300506032b6570042204201111111111111111111111111111111111111111111111111111111111111111a000a0020500",
-            Version::V1,
-        ),
-        // a field A1 is an extension
-        (
-            "3032020100300506032b6570042204201111111111111111111111111111111111111111111111111111111111111111a1020500",
-            Version::V1,
-        ),
-        // attributes, a public key, two extensions
-        (
-            "303b020101300506032b6570042204201111111111111111111111111111111111111111111111111111111111111111a000810100a2020500be020500",
-            Version::V2,
-        ),
+        ("3034020100", ["a000", "", "a0020500"], Version::V1),
+        ("3057020101", ["a000", PUBLIC_KEY, "a0020500"], Version::V2),
+        // a field A1 is an extension, whatever it holds
+        ("3032020100", ["", "", "a1020500"], Version::V1),
+        ("3055020101", ["", PUBLIC_KEY, "a1020500"], Version::V2),
+        // two extensions, of the first tag and of the last
+        ("303b020101", ["a000", "810100", "a2020500be020500"], Version::V2),
+        ("305b020101", ["a000", PUBLIC_KEY, "a0020500be020500"], Version::V2),
     ];
-    let plain = bytes_of(rt.alloc(), rows[0].0)?;
-    for (text, version) in rows {
-        let bytes = bytes_of(rt.alloc(), text)?;
+    let first = document(rt.alloc(), "302e020100", &[""; 3])?;
+    let second = document(rt.alloc(), "3051020101", &["", PUBLIC_KEY, ""])?;
+    for (head, fields, version) in rows {
+        let bytes = document(rt.alloc(), head, &fields)?;
         let key = PrivateKeyInfoRef::from_der(&bytes)?;
-        assert_eq!(rt; key.version(), version, "{text}");
-        assert_eq!(rt;
-            key.public_key.is_some(),
-            version.has_public_key(),
-            "{text}"
-        );
-        assert_eq!(rt; key.private_key.as_bytes().len(), 34, "{text}");
-        if version == Version::V1 {
-            assert_eq!(rt; key.to_der(rt.alloc())?, plain, "{text}");
+        assert_eq!(rt; key.version(), version, "{head}");
+        assert_eq!(rt; key.private_key.as_bytes(), &first[14..], "{head}");
+        let written = key.to_der(rt.alloc())?;
+        match key.public_key {
+            None => assert_eq!(rt; written, first, "{head}"),
+            Some(public_key) if public_key.raw_bytes().is_empty() => {
+                assert_eq!(rt; written.len(), 51, "{head}")
+            }
+            Some(_) => assert_eq!(rt; written, second, "{head}"),
         }
     }
     Ok(())
 }
 
-// Near misses of the same documents.
 #[test]
 fn near_misses(rt: HostRuntime) -> Result<(), Fail> {
     let rows = [
         // a third version
-        "302e020102300506032b6570042204201111111111111111111111111111111111111111111111111111111111111111",
-        // the second version without a public key
-        "302e020101300506032b6570042204201111111111111111111111111111111111111111111111111111111111111111",
-        // the first version with one
-        "3031020100300506032b6570042204201111111111111111111111111111111111111111111111111111111111111111810100",
-        // the public key twice
-        "3034020101300506032b6570042204201111111111111111111111111111111111111111111111111111111111111111810100810100",
-        // attributes behind the public key, which make no extension
-        "3033020101300506032b6570042204201111111111111111111111111111111111111111111111111111111111111111810100a000",
-        // attributes twice
-        "3032020100300506032b6570042204201111111111111111111111111111111111111111111111111111111111111111a000a000",
-        // an extension of two values
-        "3034020100300506032b6570042204201111111111111111111111111111111111111111111111111111111111111111a20405000500",
-        // an extension of no value
-        "3030020100300506032b6570042204201111111111111111111111111111111111111111111111111111111111111111a200",
-        // an extension field without a known tag
-        "3032020100300506032b6570042204201111111111111111111111111111111111111111111111111111111111111111bf020500",
-        // a public key under the tag A1
-        "3033020101300506032b6570042204201111111111111111111111111111111111111111111111111111111111111111a103030100",
-        // a public key with eight unused bits
-        "3032020101300506032b6570042204201111111111111111111111111111111111111111111111111111111111111111810208ff",
+        ("302e020102", ["", "", ""]),
+        ("3051020102", ["", PUBLIC_KEY, ""]),
         // the version in two bytes
-        "302f02020000300506032b6570042204201111111111111111111111111111111111111111111111111111111111111111",
+        ("302f02020000", ["", "", ""]),
+        ("305202020001", ["", PUBLIC_KEY, ""]),
+        // the second version without a public key
+        ("302e020101", ["", "", ""]),
+        ("3030020101", ["a000", "", ""]),
+        // the first version with one
+        ("3031020100", ["", "810100", ""]),
+        ("3051020100", ["", PUBLIC_KEY, ""]),
+        // the public key twice
+        ("3034020101", ["", "810100", "810100"]),
+        ("3074020101", ["", PUBLIC_KEY, PUBLIC_KEY]),
+        // attributes behind the public key, where they make no extension
+        ("3033020101", ["", "810100", "a000"]),
+        ("3053020101", ["", PUBLIC_KEY, "a000"]),
+        // attributes twice
+        ("3032020100", ["a000", "a000", ""]),
+        ("3055020101", ["a000", "a000", PUBLIC_KEY]),
+        // an extension of two values
+        ("3034020100", ["", "", "a20405000500"]),
+        ("3057020101", ["", PUBLIC_KEY, "a20405000500"]),
+        // an extension of no value
+        ("3030020100", ["", "", "a200"]),
+        ("3053020101", ["", PUBLIC_KEY, "a200"]),
+        // a field A1 of no value and of two values
+        ("3030020100", ["", "", "a100"]),
+        ("3057020101", ["", PUBLIC_KEY, "a10405000500"]),
+        // a field A1 in place of the public key
+        ("3033020101", ["", "a103030100", ""]),
+        ("3053020101", ["", "a1230321004d29167f3f1912a6f7adfa293a051a15c05ec67b8f17267b1c5550dce853bd0d", ""]),
+        // fields whose tags are no extensions'
+        ("3032020100", ["", "", "9e020500"]),
+        ("3055020101", ["", PUBLIC_KEY, "bf020500"]),
+        // a public key with eight unused bits
+        ("3032020101", ["", "810208ff", ""]),
+        ("3051020101", ["", "8121084d29167f3f1912a6f7adfa293a051a15c05ec67b8f17267b1c5550dce853bd0d", ""]),
     ];
     let malformed = der_small::Error::Malformed;
-    for text in rows {
-        let bytes = bytes_of(rt.alloc(), text)?;
+    for (head, fields) in rows {
+        let bytes = document(rt.alloc(), head, &fields)?;
         assert_eq!(rt;
             PrivateKeyInfoRef::from_der(&bytes).err(),
             Some(malformed),
-            "{text}"
+            "{head}"
         );
         assert_eq!(rt;
             PrivateKeyInfoOwned::from_der(rt.alloc(), &bytes).err(),
             Some(malformed),
-            "{text}"
+            "{head}"
         );
     }
     Ok(())
 }
 
+// A whole document before another byte, and one that ends too early.
 #[test]
-fn versions_and_texts_of_errors(rt: HostRuntime) -> Result<(), Fail> {
-    assert_eq!(rt; Version::try_from(0), Ok(Version::V1));
-    assert_eq!(rt; Version::try_from(1), Ok(Version::V2));
+fn documents_of_another_length(rt: HostRuntime) -> Result<(), Fail> {
+    let mut bytes = document(rt.alloc(), "302e020100", &[""; 3])?;
     assert_eq!(rt;
-        Version::try_from(2),
-        Err(Error::Asn1(der_small::Error::Malformed))
+        PrivateKeyInfoRef::from_der(&bytes[..47]).err(),
+        Some(der_small::Error::Malformed)
     );
-    assert_eq!(rt; u8::from(Version::V2), 1);
-    assert_eq!(rt; Version::from_der(&[2, 1, 1]), Ok(Version::V2));
+    bytes.push(0)?;
     assert_eq!(rt;
-        Version::from_der(&[2, 1, 2]),
-        Err(der_small::Error::Malformed)
-    );
-    assert_eq!(rt;
-        Version::V1.to_der(rt.alloc())?.as_slice(),
-        [2, 1, 0].as_slice()
-    );
-    let malformed = der_small::Error::Malformed;
-    let rows = [
-        (Error::Asn1(malformed), "PKCS#8 ASN.1 error: malformed"),
-        (
-            Error::from(KeyError::Invalid),
-            "PKCS#8 key malformed: key invalid",
-        ),
-        (
-            Error::from(KeyError::TooShort),
-            "PKCS#8 key malformed: key too short",
-        ),
-        (
-            Error::from(KeyError::TooLong),
-            "PKCS#8 key malformed: key too long",
-        ),
-        (
-            Error::ParametersMalformed,
-            "PKCS#8 algorithm parameters malformed",
-        ),
-        (
-            Error::from(spki::Error::KeyMalformed),
-            "public key error: SPKI cryptographic key data malformed",
-        ),
-        (Error::OutOfMemory, "out of memory"),
-    ];
-    for (error, text) in rows {
-        assert_eq!(rt; format!(in rt.alloc(); "{error}")?.as_str(), text);
-    }
-    let nested = spki::Error::Asn1(der_small::Error::OutOfMemory);
-    assert_eq!(rt; Error::from(nested), Error::OutOfMemory);
-    assert_eq!(rt; Error::from(spki::Error::OutOfMemory), Error::OutOfMemory);
-    assert_eq!(rt;
-        Error::from(der_small::Error::OutOfMemory),
-        Error::OutOfMemory
-    );
-    assert_eq!(rt;
-        spki::Error::from(Error::Asn1(malformed)),
-        spki::Error::Asn1(malformed)
-    );
-    assert_eq!(rt;
-        spki::Error::from(Error::PublicKey(nested)),
-        spki::Error::OutOfMemory
-    );
-    assert_eq!(rt;
-        spki::Error::from(Error::KeyMalformed(KeyError::Invalid)),
-        spki::Error::KeyMalformed
-    );
-    assert_eq!(rt;
-        spki::Error::from(Error::ParametersMalformed),
-        spki::Error::KeyMalformed
-    );
-    assert_eq!(rt;
-        spki::Error::from(Error::OutOfMemory),
-        spki::Error::OutOfMemory
+        PrivateKeyInfoRef::from_der(&bytes).err(),
+        Some(der_small::Error::TrailingData {
+            decoded: 48,
+            remaining: 1
+        })
     );
     Ok(())
 }
