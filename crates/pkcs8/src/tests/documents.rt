@@ -36,10 +36,7 @@ fn a_key_in_all_its_forms(rt: HostRuntime) -> Result<(), Fail> {
 fn a_key_with_bytes_of_its_own(rt: HostRuntime) -> Result<(), Fail> {
     let key = PrivateKeyInfoRef::from_der(&ED25519)?;
     let owned = key.ref_to_owned(rt.alloc())?;
-    assert_eq!(rt;
-        owned,
-        PrivateKeyInfoOwned::from_der(rt.alloc(), &ED25519)?
-    );
+    assert_eq!(rt; owned, PrivateKeyInfoOwned::from_der(rt.alloc(), &ED25519)?);
     assert_eq!(rt;
         owned,
         PrivateKeyInfoOwned::from_pkcs8_der(rt.alloc(), &ED25519)?
@@ -112,9 +109,9 @@ fn a_key_with_attributes_and_public_key(rt: HostRuntime) -> Result<(), Fail> {
     let document = key.to_secret_document(rt.alloc())?;
     let bytes = document.as_bytes();
     assert_eq!(rt; bytes.len(), 83);
-    assert_eq!(rt; bytes[..2], [0x30, 0x51]);
-    assert_eq!(rt; bytes[2..48], BY_RFC[2..48]);
-    assert_eq!(rt; bytes[48..], BY_RFC[81..]);
+    assert_eq!(rt; &bytes[..2], [0x30, 0x51].as_slice());
+    assert_eq!(rt; &bytes[2..48], &BY_RFC[2..48]);
+    assert_eq!(rt; &bytes[48..], &BY_RFC[81..]);
     let again = PrivateKeyInfoRef::from_der(bytes)?;
     assert_eq!(rt; again, key);
     let owned = again.ref_to_owned(rt.alloc())?;

@@ -4,7 +4,8 @@ use std::alloc::{AllocError, Global};
 use std::test::Fail;
 
 /// The algorithm and the octet string of an Ed25519 key (RFC 8410, section 7) with 32 octets 11.
-const KEY: &str = "300506032b6570042204201111111111111111111111111111111111111111111111111111111111111111";
+const KEY: &str =
+    "300506032b6570042204201111111111111111111111111111111111111111111111111111111111111111";
 
 /// A field 81 with a public key of 32 octets.
 const PUBLIC_KEY: &str = "8121004d29167f3f1912a6f7adfa293a051a15c05ec67b8f17267b1c5550dce853bd0d";
@@ -60,8 +61,16 @@ fn documents_of_every_form(rt: HostRuntime) -> Result<(), Fail> {
         ("3032020100", ["", "", "a1020500"], Version::V1),
         ("3055020101", ["", PUBLIC_KEY, "a1020500"], Version::V2),
         // two extensions, of the first tag and of the last
-        ("303b020101", ["a000", "810100", "a2020500be020500"], Version::V2),
-        ("305b020101", ["a000", PUBLIC_KEY, "a0020500be020500"], Version::V2),
+        (
+            "303b020101",
+            ["a000", "810100", "a2020500be020500"],
+            Version::V2,
+        ),
+        (
+            "305b020101",
+            ["a000", PUBLIC_KEY, "a0020500be020500"],
+            Version::V2,
+        ),
     ];
     let first = document(rt.alloc(), "302e020100", &[""; 3])?;
     let second = document(rt.alloc(), "3051020101", &["", PUBLIC_KEY, ""])?;
@@ -117,13 +126,27 @@ fn near_misses(rt: HostRuntime) -> Result<(), Fail> {
         ("3057020101", ["", PUBLIC_KEY, "a10405000500"]),
         // a field A1 in place of the public key
         ("3033020101", ["", "a103030100", ""]),
-        ("3053020101", ["", "a1230321004d29167f3f1912a6f7adfa293a051a15c05ec67b8f17267b1c5550dce853bd0d", ""]),
+        (
+            "3053020101",
+            [
+                "",
+                "a1230321004d29167f3f1912a6f7adfa293a051a15c05ec67b8f17267b1c5550dce853bd0d",
+                "",
+            ],
+        ),
         // fields whose tags are no extensions'
         ("3032020100", ["", "", "9e020500"]),
         ("3055020101", ["", PUBLIC_KEY, "bf020500"]),
         // a public key with eight unused bits
         ("3032020101", ["", "810208ff", ""]),
-        ("3051020101", ["", "8121084d29167f3f1912a6f7adfa293a051a15c05ec67b8f17267b1c5550dce853bd0d", ""]),
+        (
+            "3051020101",
+            [
+                "",
+                "8121084d29167f3f1912a6f7adfa293a051a15c05ec67b8f17267b1c5550dce853bd0d",
+                "",
+            ],
+        ),
     ];
     let malformed = der_small::Error::Malformed;
     for (head, fields) in rows {
