@@ -8,4 +8,5 @@ pub mod PrivateKey
 pub mod PrivateKeyInfo
 pub mod ReadLaws
 pub mod Shown
+pub mod ShownEncoding
 pub mod Version

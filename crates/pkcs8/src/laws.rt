@@ -11,7 +11,7 @@ ghost use Rattle.pkcs8.specs.PrivateKeyInfo.{private_key_encoding};
 ghost use Rattle.pkcs8.specs.declared.private_key_info.PrivateKeyInfo.{PrivateKeyInfo as KeyOf};
 
 use crate::{BitStringLike, PrivateKeyInfo, PrivateKeyInfoOwned, PrivateKeyInfoRef};
-use der_small::{Choice, Decode, FixedTag, LawfulValue};
+use der_small::{Choice, Decode, Encode, FixedTag, LawfulValue};
 use std::fmt;
 
 /// What is written of a private key is read as that key, of whatever lawful types its parts are.
@@ -37,6 +37,6 @@ pub fn equal_keys_have_equal_parts()
 {}
 
 /// What `Debug` shows of a private key is the same of keys whose private octets alone differ.
-pub fn shown_keys_hide_private_octets<Params: fmt::Debug, Key, PubKey: fmt::Debug>()
+pub fn shown_keys_hide_private_octets<Params: Encode, Key, PubKey: BitStringLike>()
     ensures { (a b : KeyOf Params Key PubKey) → a.algorithm ≡ b.algorithm → a.public_key ≡ b.public_key → ⟦<PrivateKeyInfo<Params, Key, PubKey> as fmt::Debug>⟧.debug_output a ≡ ⟦<PrivateKeyInfo<Params, Key, PubKey> as fmt::Debug>⟧.debug_output b }
 {}

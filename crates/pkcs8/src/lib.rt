@@ -3,9 +3,11 @@
 
 mod error;
 mod extensions;
+mod kept;
 mod key_file;
 mod laws;
 mod private_key_info;
+mod shown;
 mod tail;
 mod traits;
 mod version;

@@ -6,6 +6,7 @@ ghost use Rattle.pkcs8.specs.PlainPrivateKey.{plain_private_key, plain_private_k
 ghost use Rattle.pkcs8.specs.PrivateKeyInfo.{PrivateKeyContent, private_key_content};
 ghost use Rattle.pkcs8.specs.Version.{version_of};
 
+use crate::shown::{shown_parameters, shown_public_key};
 use crate::tail::{PUBLIC_KEY, after_key};
 use crate::{BitStringLike, DecodePrivateKey, EncodePrivateKey, Error, Result, Version};
 use der_small::{
@@ -131,18 +132,18 @@ impl<Params: Encode, Key: EncodeValue + FixedTag, PubKey: BitStringLike> EncodeV
     }
 }
 
-impl<Params: fmt::Debug, Key, PubKey: fmt::Debug> fmt::Debug
+impl<Params: Encode, Key, PubKey: BitStringLike> fmt::Debug
     for PrivateKeyInfo<Params, Key, PubKey> {
     ghost use Rattle.pkcs8.specs.Shown.{key_debug};
 
     // The private key is no part of it.
-    ghost debug_output = { λ v. key_debug Params.debug_output PubKey.debug_output v.algorithm v.public_key };
+    ghost debug_output = { λ v. key_debug Params.encoding PubKey.bits v.algorithm v.public_key };
 
     fn fmt<W: fmt::Write>(&self, f: &mut fmt::Formatter<W>) -> fmt::Result {
         let version = self.version();
         let oid = self.algorithm.oid;
-        let parameters = &self.algorithm.parameters;
-        let public_key = &self.public_key;
+        let parameters = shown_parameters(&self.algorithm.parameters);
+        let public_key = shown_public_key(&self.public_key);
         write!(
             f,
             "PrivateKeyInfo {{ version: {version:?}, algorithm: AlgorithmIdentifier {{ oid: {oid}, parameters: {parameters:?} }}, public_key: {public_key:?} }}"
