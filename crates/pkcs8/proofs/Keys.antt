@@ -1,5 +1,5 @@
 -- Where the parts of a private key cannot be read, there is none.
-use Rattle.std.proofs.Common.{◌≡◌, ◌↔◌, ℕ, ◌+◌, ◌<◌, ◌^◌, List, [], ◌++◌, length, get_or, Bool, true, false, Option, Some, None, refl, sym, ap, subst, ◌∙◌, inl, inr, arith}
+use Rattle.std.proofs.Common.{◌≡◌, ◌↔◌, ℕ, ◌<◌, ◌^◌, List, [], ◌++◌, length, get_or, Bool, true, false, Option, Some, None, refl, sym, ap, subst, ◌∙◌, inl, inr, arith}
 use Rattle.der_core.specs.Der.{IsTag, IsValue, encode}
 use Rattle.der_core.specs.Decode.{Front, NoFront, ReadsTagged, ReadsTagged-one_value}
 use Rattle.der_core.specs.Tags.{tag_2, tag_129, tag_160}

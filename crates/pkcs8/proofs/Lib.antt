@@ -1,3 +1,4 @@
+pub mod DebugText
 pub mod Equality
 pub mod Fields
 pub mod Keys

@@ -1,5 +1,5 @@
 -- What is written of a private key is read again.
-use Rattle.std.proofs.Common.{◌≡◌, ℕ, ◌+◌, ◌<◌, ◌^◌, List, [], ◌∷◌, ◌++◌, length, Option, Some, None, IfSome, inl, inr, refl, sym, subst, ◌∙◌, arith, append_assoc, append-nil}
+use Rattle.std.proofs.Common.{◌≡◌, ℕ, ◌<◌, ◌^◌, List, [], ◌∷◌, ◌++◌, length, Option, Some, None, IfSome, inl, inr, refl, sym, subst, ◌∙◌, arith, append_assoc, append-nil}
 use Rattle.der_core.specs.Decode.{ReadsTagged}
 use Rattle.der_core.specs.Der.{encode}
 use Rattle.der_core.specs.Laws.{content_fits, tagged_encoding_reads}

@@ -1,5 +1,5 @@
 //! Laws of private keys, each as the contract of a function.
-ghost use Rattle.std.specs.Prelude.{◌≡◌, ◌↔◌, ◌<◌, ◌^◌, ℕ, List, length, true};
+ghost use Rattle.std.specs.Prelude.{◌≡◌, ◌↔◌, ◌<◌, ◌^◌, ℕ, List, length, true, IsSome};
 ghost use Rattle.der_core.specs.declared.any.Any.{Any as AnyValue};
 ghost use Rattle.der_core.specs.declared.any.AnyRef.{AnyRef as AnyRefValue};
 ghost use Rattle.der_small.specs.declared.bit_string.BitString.{BitString as BitsValue};
@@ -36,7 +36,8 @@ pub fn equal_keys_have_equal_parts()
     ensures owned { (a b : KeyOf AnyValue OctetsValue BitsValue) → (⟦<PrivateKeyInfoOwned as PartialEq>⟧.eq a b ≡ true) ↔ (plain_private_key a ≡ plain_private_key b) }
 {}
 
-/// What `Debug` shows of a private key is the same of keys whose private octets alone differ.
+/// What `Debug` shows of a private key is known whatever its parts are, and is the same of keys whose private octets alone differ.
 pub fn shown_keys_hide_private_octets<Params: Encode, Key, PubKey: BitStringLike>()
-    ensures { (a b : KeyOf Params Key PubKey) → a.algorithm ≡ b.algorithm → a.public_key ≡ b.public_key → ⟦<PrivateKeyInfo<Params, Key, PubKey> as fmt::Debug>⟧.debug_output a ≡ ⟦<PrivateKeyInfo<Params, Key, PubKey> as fmt::Debug>⟧.debug_output b }
+    ensures shown { (v : KeyOf Params Key PubKey) → IsSome (⟦<PrivateKeyInfo<Params, Key, PubKey> as fmt::Debug>⟧.debug_output v) }
+    ensures hidden { (a b : KeyOf Params Key PubKey) → a.algorithm ≡ b.algorithm → a.public_key ≡ b.public_key → ⟦<PrivateKeyInfo<Params, Key, PubKey> as fmt::Debug>⟧.debug_output a ≡ ⟦<PrivateKeyInfo<Params, Key, PubKey> as fmt::Debug>⟧.debug_output b }
 {}

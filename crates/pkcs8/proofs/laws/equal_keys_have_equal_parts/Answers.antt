@@ -1,5 +1,4 @@
 use Rattle.std.specs.Cmp.Lexicographic.{bytes_decides}
-use Rattle.std.specs.Option.{option_eq}
 use Rattle.std.proofs.lemmas.Bool.Decides.{Decides-eqb}
 use Rattle.der_core.specs.Any.{plain_ref, plain_any}
 use Rattle.der_core.specs.ObjectIdentifier.{oid_content}
