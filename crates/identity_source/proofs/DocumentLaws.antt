@@ -59,7 +59,7 @@ abbrev pub identity_content : Fields → List ℕ
 identity_content f = encode 12 f.id ++ (private_document f.version f.private_oid f.octets ++ public_document f.public_oid f.bits)
 
 abbrev pub identity_of : Fields → IdentityFields
-identity_of f = record { id = f.id; private_key = (f.version, f.private_oid, f.octets); public_document = public_document f.public_oid f.bits; public_key = (f.public_oid, f.bits) }
+identity_of f = record { id = f.id; private_key = (f.version, f.private_oid, f.octets); public_key = (f.public_oid, f.bits) }
 
 pub identity_again : (f : Fields) → length (identity_content f) < 2 ^ 32 → identity_in (identity_content f) ≡ Some (identity_of f)
 unfolding identity_in
@@ -93,6 +93,18 @@ document_again f fits =
     let i = content_fits 48 (identity_content f) (content_fits 48 (identity f) (left_fits (encode 48 (identity f)) (encode 48 (bundle f)) all)) in
     let b = content_fits 48 (bundle_content f) (content_fits 48 (bundle f) (right_fits (encode 48 (identity f)) (encode 48 (bundle f)) all)) in
     rw (entries_again f fits, identity_again f i, two_again 12 4 f.domain f.keys tag_12 tag_4 b) refl
+
+-- the public key document in a document that fits, and its bits, fit
+pub public_fits : (f : Fields) → length (document f) < 2 ^ 32 → length (public_document f.public_oid f.bits) < 2 ^ 32
+public_fits f fits =
+    let private : List ℕ = private_document f.version f.private_oid f.octets in
+    let public : List ℕ = public_document f.public_oid f.bits in
+    let all = content_fits 48 (encode 48 (identity f) ++ encode 48 (bundle f)) fits in
+    let i = content_fits 48 (identity_content f) (content_fits 48 (identity f) (left_fits (encode 48 (identity f)) (encode 48 (bundle f)) all)) in
+    right_fits private public (right_fits (encode 12 f.id) (private ++ public) i)
+
+pub bits_fit : (oid bits : List ℕ) → length (public_document oid bits) < 2 ^ 32 → length bits < 2 ^ 32
+bits_fit oid bits fits = content_fits 3 bits (right_fits (algorithm oid) (encode 3 bits) (content_fits 48 (algorithm oid ++ encode 3 bits) fits))
 
 -- what reads no fields is no document
 pub no_document : (bytes : List ℕ) (r : Option Document) → option_map document_fields r ≡ document_in bytes

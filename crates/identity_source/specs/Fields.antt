@@ -32,17 +32,16 @@ unfoldable pub public_in : List ℕ → Option (List ℕ × List ℕ)
 public_in bytes =
     option_and_then (λ content. option_and_then (λ key. option_map (λ oid. (oid, key.1)) (only 6 key.0)) (two 48 3 content)) (only 48 bytes)
 
--- the fields of an identity, from its content, and its public key document
+-- the fields of an identity, from its content
 pub record IdentityFields : Type 0 where
   pub id : List ℕ
   pub private_key : List ℕ × List ℕ × List ℕ
-  pub public_document : List ℕ
   pub public_key : List ℕ × List ℕ
 
 unfoldable pub identity_in : List ℕ → Option IdentityFields
 identity_in content =
     option_and_then (λ id. option_and_then (λ private. option_and_then (λ private_key.
-    option_map (λ public_key. record { id = id.0; private_key = private_key; public_document = private.1; public_key = public_key })
+    option_map (λ public_key. record { id = id.0; private_key = private_key; public_key = public_key })
     (public_in private.1)) (private_in private.0)) (field 48 id.1)) (field 12 content)
 
 -- the contents of the one identity and of the one bundle of a document

@@ -14,7 +14,7 @@ abbrev pub public_fields : PublicKey → List ℕ × List ℕ
 public_fields k = (k.oid.now, k.bits.now)
 
 abbrev pub identity_fields : Identity → IdentityFields
-identity_fields i = record { id = i.id.now; private_key = private_fields i.private_key; public_document = i.public_document.now; public_key = public_fields i.public_key }
+identity_fields i = record { id = i.id.now; private_key = private_fields i.private_key; public_key = public_fields i.public_key }
 
 abbrev pub document_fields : Document → DocumentFields
 document_fields d = record { identity = identity_fields d.identity; bundle = (d.domain.now, d.keys.now) }

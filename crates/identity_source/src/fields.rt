@@ -22,12 +22,11 @@ pub(crate) struct PublicKey<'a> {
     pub(crate) bits: &'a [u8],
 }
 
-/// The fields of an identity, and its public key document whole.
+/// The fields of an identity.
 #[derive(Drop)]
 pub(crate) struct Identity<'a> {
     pub(crate) id: &'a [u8],
     pub(crate) private_key: PrivateKey<'a>,
-    pub(crate) public_document: &'a [u8],
     pub(crate) public_key: PublicKey<'a>,
 }
 
@@ -111,7 +110,6 @@ fn read_public_key(document: &[u8]) -> Option<PublicKey<'_>>
 fn read_identity(content: &[u8]) -> Option<Identity<'_>>
     ensures same { option_map identity_fields result ≡ identity_in content.now }
     ensures value { IfSome result (λ i. content.now ≡ encode 12 i.id.now ++ (private_document i.private_key.version.now i.private_key.oid.now i.private_key.octets.now ++ public_document i.public_key.oid.now i.public_key.bits.now)) }
-    ensures public { IfSome result (λ i. i.public_document.now ≡ public_document i.public_key.oid.now i.public_key.bits.now) }
 {
     let (id, rest) = field(Tag::UTF8_STRING, content)?;
     let (private, public_document) = field(Tag::SEQUENCE, rest)?;
@@ -120,7 +118,6 @@ fn read_identity(content: &[u8]) -> Option<Identity<'_>>
     Some(Identity {
         id,
         private_key,
-        public_document,
         public_key,
     })
 }
@@ -143,7 +140,6 @@ fn read_entries(bytes: &[u8]) -> Option<(&[u8], &[u8])>
 fn document_at(bytes: &[u8]) -> Option<Document<'_>>
     ensures same { option_map document_fields result ≡ document_in bytes.now }
     ensures value { IfSome result (λ d. bytes.now ≡ document (fields_in d)) }
-    ensures public { IfSome result (λ d. d.identity.public_document.now ≡ public_document d.identity.public_key.oid.now d.identity.public_key.bits.now) }
     ensures fits { IfSome result (λ _. length bytes.now < 2 ^ 32) }
 {
     let (first, second) = read_entries(bytes)?;
@@ -159,7 +155,6 @@ fn document_at(bytes: &[u8]) -> Option<Document<'_>>
 /// The fields of the document that the bytes are, none where they are no document of one identity and one bundle.
 pub(crate) fn read_document(bytes: &[u8]) -> Option<Document<'_>>
     ensures value { IfSome result (λ d. bytes.now ≡ document (fields_in d)) }
-    ensures public { IfSome result (λ d. d.identity.public_document.now ≡ public_document d.identity.public_key.oid.now d.identity.public_key.bits.now) }
     ensures fits { IfSome result (λ _. length bytes.now < 2 ^ 32) }
     ensures none { IfNone result ((f : Fields) → bytes.now ≡ document f → length bytes.now < 2 ^ 32 → ⊥) }
 {

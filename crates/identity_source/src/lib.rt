@@ -6,9 +6,10 @@ mod fields;
 mod laws;
 mod names;
 mod plain;
+mod plain_parts;
 mod update;
 
 pub use error::UpdateError;
 pub use laws::text_has_one_reading;
-pub use plain::PlainParts;
+pub use plain_parts::PlainParts;
 pub use update::Update;

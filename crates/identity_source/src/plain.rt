@@ -1,45 +1,39 @@
 //! Reading the document of a plain update.
-ghost use Rattle.std.specs.Prelude.{◌≡◌, ◌↔◌, IfNone, IfSome, IsTrue, List, ℕ};
+ghost use Rattle.std.specs.Prelude.{◌≡◌, ◌↔◌, ◌<◌, ◌^◌, ◌∷◌, IfNone, IfSome, IsTrue, List, ℕ, length};
 ghost use Rattle.identity_source.specs.Document.{AreBits, Fields, IsParts, IsPlain, Parts, document, fields_of, public_document};
 ghost use Rattle.der_core.specs.ObjectIdentifier.{oid_content};
+ghost use Rattle.der_small.specs.BitString.{plain_bits_ref};
 ghost use Rattle.identity_source.specs.PlainParts.{parts_shown};
 ghost use Rattle.identity_source.specs.Shown.{shown};
 ghost use Rattle.identity_source.specs.Views.{fields_in};
+ghost use Rattle.spki.specs.PlainPublicKey.{plain_public_key_ref, public_key_der};
 
 use crate::fields::{Document, read_document};
 use crate::names::{is_domain, is_segment, segment_of};
+use crate::plain_parts::PlainParts;
 use der_core::ObjectIdentifier;
+use der_small::BitStringRef;
+use spki::{AlgorithmIdentifier, SubjectPublicKeyInfo};
 use std::str;
 
-/// The parts of a plain update that a report prints, lent.
-#[derive(Clone, Copy, Debug)]
-pub struct PlainParts<'a> {
-    /// The SPIFFE ID of the one identity.
-    pub id: &'a str,
-    /// The algorithm of its key pair.
-    pub oid: ObjectIdentifier,
-    /// Its public key document, as DER (RFC 5280 section 4.1.2.7).
-    pub public_document: &'a [u8],
-    /// The trust domain of the one bundle.
-    pub domain: &'a str,
-}
-
-// Whether the bytes are the content of a BIT STRING.
-fn are_bits(content: &[u8]) -> bool
-    ensures { IsTrue result ↔ AreBits content.now }
+// The bit string whose content the bytes are.
+fn bits_in(content: &[u8]) -> Option<BitStringRef<'_>>
+    requires { length content.now < 2 ^ 32 }
+    ensures some { IfSome result (λ bits. content.now ≡ (plain_bits_ref bits).unused_bits ∷ (plain_bits_ref bits).octets) }
+    ensures bits { IfSome result (λ _. AreBits content.now) }
+    ensures none { IfNone result (AreBits content.now → ⊥) }
 {
-    match content {
-        [unused, octets @ ..] => *unused <= 7 && (!octets.is_empty() || *unused == 0),
-        [] => false,
-    }
+    let (unused, octets) = content.split_first()?;
+    BitStringRef::new(*unused, octets).ok()
 }
 
 // What is shown of a document whose fields are those of a plain update.
 fn show<'a>(document: &Document<'a>) -> Option<PlainParts<'a>>
+    requires { length (public_document (fields_in document.now).public_oid (fields_in document.now).bits) < 2 ^ 32 }
     ensures plain { IfSome result (λ u. (p : Parts) × IsParts p × (fields_in document.now ≡ fields_of p)) }
     ensures id { IfSome result (λ u. u.id.now ≡ (fields_in document.now).id) }
-    ensures oid { IfSome result (λ u. oid_content u.oid ≡ (fields_in document.now).public_oid) }
-    ensures public { IfSome result (λ u. u.public_document.now ≡ document.now.identity.public_document.now) }
+    ensures oid { IfSome result (λ u. oid_content u.public_key.algorithm.oid ≡ (fields_in document.now).public_oid) }
+    ensures public { IfSome result (λ u. public_key_der (plain_public_key_ref u.public_key) ≡ public_document (fields_in document.now).public_oid (fields_in document.now).bits) }
     ensures domain { IfSome result (λ u. u.domain.now ≡ (fields_in document.now).domain) }
     ensures none { IfNone result ((p : Parts) → IsParts p → fields_in document.now ≡ fields_of p → ⊥) }
 {
@@ -62,9 +56,9 @@ fn show<'a>(document: &Document<'a>) -> Option<PlainParts<'a>>
     if !is_segment(segment) {
         return None;
     }
-    if !are_bits(identity.public_key.bits) {
+    let Some(subject_public_key) = bits_in(identity.public_key.bits) else {
         return None;
-    }
+    };
     if identity.private_key.version != [0].as_slice() {
         return None;
     }
@@ -76,8 +70,13 @@ fn show<'a>(document: &Document<'a>) -> Option<PlainParts<'a>>
     }
     Some(PlainParts {
         id,
-        oid,
-        public_document: identity.public_document,
+        public_key: SubjectPublicKeyInfo {
+            algorithm: AlgorithmIdentifier {
+                oid,
+                parameters: None,
+            },
+            subject_public_key,
+        },
         domain,
     })
 }

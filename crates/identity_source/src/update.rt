@@ -4,9 +4,10 @@ ghost use Rattle.identity_source.specs.PlainParts.{parts_shown};
 ghost use Rattle.identity_source.specs.Reading.{HasLength, IsTextRefusal, Reading, Writes};
 
 use crate::UpdateError;
-use crate::plain::{PlainParts, read_plain};
+use crate::plain::read_plain;
+use crate::plain_parts::PlainParts;
 use base64ct::{Base64, Decoder};
-use der_core::ObjectIdentifier;
+use spki::SubjectPublicKeyInfoOwned;
 use std::alloc::Global;
 use std::marker::Model;
 
@@ -14,19 +15,21 @@ use std::marker::Model;
 #[derive(Drop)]
 pub struct Update {
     id: String,
-    oid: ObjectIdentifier,
-    public_document: Vec<u8>,
+    public_key: SubjectPublicKeyInfoOwned,
     domain: String,
 }
 
 impl Model for Update {
-    ghost use Rattle.std.specs.Prelude.{string_bytes};
+    ghost use Rattle.std.specs.Prelude.{◌<◌, ◌^◌, length, string_bytes};
     ghost use Rattle.der_core.specs.ObjectIdentifier.{oid_content};
     ghost use Rattle.identity_source.specs.Shown.{Shown};
+    ghost use Rattle.spki.specs.PlainPublicKey.{plain_public_key, public_key_der};
 
     ghost Value = { Shown };
 
-    ghost view = { λ u. record { id = string_bytes u.id; oid = oid_content u.oid; public_document = u.public_document.items; domain = string_bytes u.domain } };
+    ghost view = { λ u. record { id = string_bytes u.id; oid = oid_content u.public_key.algorithm.oid; public_document = public_key_der (plain_public_key u.public_key); domain = string_bytes u.domain } };
+
+    ghost invariant = { λ u. length (public_key_der (plain_public_key u.public_key)) < 2 ^ 32 };
 }
 
 impl Update {
@@ -38,10 +41,12 @@ impl Update {
         let Some(parts) = read_plain(&bytes) else {
             return Err(UpdateError::NotBuilt);
         };
+        let Ok(public_key) = parts.public_key.ref_to_owned(alloc) else {
+            return Err(UpdateError::OutOfMemory);
+        };
         Ok(Update {
             id: String::from_str(alloc, parts.id)?,
-            oid: parts.oid,
-            public_document: Vec::from_slice(alloc, parts.public_document)?,
+            public_key,
             domain: String::from_str(alloc, parts.domain)?,
         })
     }
@@ -52,8 +57,7 @@ impl Update {
     {
         PlainParts {
             id: self.id.as_str(),
-            oid: self.oid,
-            public_document: &self.public_document,
+            public_key: self.public_key.owned_to_ref(),
             domain: self.domain.as_str(),
         }
     }

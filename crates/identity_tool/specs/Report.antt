@@ -1,18 +1,16 @@
 -- The bytes of a report and of the line of a refusal.
-use Rattle.std.specs.Prelude.{ℕ, List, ◌++◌, codes, decimal, true}
+use Rattle.std.specs.Prelude.{ℕ, List, ◌++◌, codes, decimal}
 use Rattle.sha2.specs.Sha256.{sha256}
-use Rattle.base64_alphabet.specs.Group.{High}
-use Rattle.base64_alphabet.specs.Standard.{standard}
-use Rattle.base64_alphabet.specs.Encoding.{encoding_of}
 use Rattle.base64ct.specs.Errors.{error_text}
 use Rattle.der_core.specs.Oid.{oid_text}
 use Rattle.identity_source.specs.Shown.{Shown}
 use Rattle.identity_source.specs.declared.error.UpdateError.{UpdateError}
 use Rattle.identity_source.specs.declared.error.UpdateError.TheVariants.{NotBuilt, OutOfMemory, Text}
+use Rattle.spki.specs.Fingerprint.{base64_text}
 
 -- the fingerprint of a public key: the Base64 of the SHA-256 of its document (RFC 7469 section 2.1.1)
 abbrev pub fingerprint_of : List ℕ → List ℕ
-fingerprint_of document = encoding_of High standard true (sha256 document)
+fingerprint_of document = base64_text (sha256 document)
 
 -- the lines of a report: a revision, an identity with its algorithm and fingerprint, and a bundle without keys
 abbrev pub report_lines : ℕ → List ℕ → List ℕ → List ℕ → List ℕ → List ℕ

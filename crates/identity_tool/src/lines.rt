@@ -1,29 +1,36 @@
 //! The lines of a report, and of a refusal.
-ghost use Rattle.std.specs.Prelude.{◌≡◌, ◌≢◌, ◌++◌, IfOk, codes, decimal, string_bytes};
+ghost use Rattle.std.specs.Prelude.{◌≡◌, ◌≢◌, ◌++◌, ◌<◌, ◌^◌, IfOk, codes, decimal, length, string_bytes};
 ghost use Rattle.der_core.specs.Oid.{oid_text};
 ghost use Rattle.identity_source.specs.PlainParts.{parts_shown};
 ghost use Rattle.identity_tool.specs.Report.{fingerprint_of, refusal_line, report_lines, report_of};
+ghost use Rattle.spki.specs.PlainPublicKey.{plain_public_key_ref, public_key_der};
 
-use base64ct::{Base64, Encoding, Error};
 use identity_source::{PlainParts, UpdateError};
-use sha2::{Digest, Sha256};
+use spki::{Error, SubjectPublicKeyInfoRef};
 use std::alloc::{AllocError, Global};
 
-// The fingerprint of a public key, from its document.
-fn fingerprint(alloc: Global, document: &[u8]) -> Result<String, Error>
-    ensures { IfOk result (λ text. string_bytes text ≡ fingerprint_of document.now) }
+// The fingerprint of a public key whose document fits.
+fn fingerprint(alloc: Global, key: &SubjectPublicKeyInfoRef<'_>) -> Result<String, AllocError>
+    requires { length (public_key_der (plain_public_key_ref key.now)) < 2 ^ 32 }
+    ensures { IfOk result (λ text. string_bytes text ≡ fingerprint_of (public_key_der (plain_public_key_ref key.now))) }
 {
-    let digest = Sha256::digest(document);
-    Base64::encode_string(alloc, &digest)
+    match key.fingerprint_base64(alloc) {
+        Ok(text) => Ok(text),
+        Err(Error::OutOfMemory) => Err(AllocError),
+        Err(_) => unreachable!(),
+    }
 }
 
 /// The report of an update that is published as this revision.
-pub fn report_text(alloc: Global, revision: u64, update: &PlainParts<'_>) -> Result<String, Error>
+pub fn report_text(
+    alloc: Global,
+    revision: u64,
+    update: &PlainParts<'_>,
+) -> Result<String, AllocError>
     ensures { IfOk result (λ text. string_bytes text ≡ report_of revision (parts_shown update.now)) }
 {
-    let fingerprint = fingerprint(alloc, update.public_document)?;
-    let text = format_report(alloc, revision, update, fingerprint.as_str())?;
-    Ok(text)
+    let fingerprint = fingerprint(alloc, &update.public_key)?;
+    format_report(alloc, revision, update, fingerprint.as_str())
 }
 
 // The report, from the fingerprint of the public key.
@@ -38,7 +45,7 @@ fn format_report(
 {
     format!(in alloc;
         "revision {revision}\nidentity {} {} {fingerprint}\nbundle {} 0\n",
-        update.id, update.oid, update.domain
+        update.id, update.public_key.algorithm.oid, update.domain
     )
 }
 

@@ -33,12 +33,29 @@ spiffe://test.org/o/.. = DotSegment
 spiffe://test.org/a?q = BadPathSegmentChar
 spiffe://test.org/a b = BadPathSegmentChar
 http:///path = WrongScheme
-spiffe://// = MissingTrustDomain
-spiffe://a:1// = BadTrustDomainChar
+http://a:1 = WrongScheme
+http://a/ = WrongScheme
+http://a//b = WrongScheme
+http://a/. = WrongScheme
+http://a/? = WrongScheme
+spiffe:/// = MissingTrustDomain
+spiffe:////b = MissingTrustDomain
+spiffe:///. = MissingTrustDomain
+spiffe:///? = MissingTrustDomain
+spiffe://a:1/ = BadTrustDomainChar
+spiffe://a:1//b = BadTrustDomainChar
+spiffe://a:1/. = BadTrustDomainChar
+spiffe://a:1/? = BadTrustDomainChar
+spiffe://a/./ = DotSegment
+spiffe://a/?/ = BadPathSegmentChar
+spiffe://a//. = EmptySegment
+spiffe://a/.//b = DotSegment
+spiffe://a//? = EmptySegment
+spiffe://a/?//b = BadPathSegmentChar
+spiffe://a/./? = DotSegment
+spiffe://a/?/. = BadPathSegmentChar
 spiffe://a//./ = EmptySegment
-spiffe://a/.// = DotSegment
-spiffe://a/?/./ = BadPathSegmentChar
-spiffe://a/./? = DotSegment";
+spiffe://a/?/./ = BadPathSegmentChar";
 
 const DOMAINS: &str = "domain.test = domain.test
 Domain.TEST = domain.test
@@ -51,6 +68,9 @@ spiffe:///path = MissingTrustDomain
 http:/x = WrongScheme
 http://domain.test = WrongScheme
 ://domain.test = WrongScheme
+http:///x = WrongScheme
+http://a:1 = WrongScheme
+a?:/x = WrongScheme
 domain.test:8080 = BadTrustDomainChar
 domain/test = BadTrustDomainChar
 spiffe://domain test/p = BadTrustDomainChar";
@@ -61,7 +81,21 @@ a/b,., = BadPathSegmentChar
 .,,? = DotSegment
 a,..,? = DotSegment
 a,b,? = BadPathSegmentChar
-a,b, = EmptySegment";
+a,b, = EmptySegment
+,a/b = EmptySegment
+,.. = EmptySegment
+,? = EmptySegment
+a/b, = BadPathSegmentChar
+a/b,.. = BadPathSegmentChar
+.., = DotSegment
+..,a/b = DotSegment
+..,? = DotSegment
+?, = BadPathSegmentChar
+?,.. = BadPathSegmentChar";
+
+const TOO_LONG_DOMAIN: &str = "TrustDomainTooLong { max: 255 }";
+
+const TOO_LONG_ID: &str = "SpiffeIdTooLong { max: 2048 }";
 
 fn id_or_rule(alloc: Global, text: &str) -> Result<String, Fail> {
     match SpiffeId::new(alloc, text) {
@@ -109,21 +143,47 @@ fn trust_domains(rt: HostRuntime) -> Result<(), Fail> {
         let (text, wanted) = row.split_once(" = ").ok_or("no answer")?;
         assert_eq!(rt; domain_or_rule(alloc, text)?.as_str(), wanted, "{row}");
     }
+    Ok(())
+}
+
+#[test]
+fn long_trust_domains(rt: HostRuntime) -> Result<(), Fail> {
+    let alloc = rt.alloc();
     let fits = "a".repeat(alloc, 255)?;
     let long = "a".repeat(alloc, 256)?;
     let long_and_bad = "?".repeat(alloc, 256)?;
-    let long_in_id = format!(in alloc; "spiffe://{long_and_bad}//")?;
-    let too_long = "TrustDomainTooLong { max: 255 }";
-    assert_eq!(rt;
-        domain_or_rule(alloc, fits.as_str())?.as_str(),
-        fits.as_str()
-    );
-    assert_eq!(rt; domain_or_rule(alloc, long.as_str())?.as_str(), too_long);
-    assert_eq!(rt;
-        domain_or_rule(alloc, long_and_bad.as_str())?.as_str(),
-        too_long
-    );
-    assert_eq!(rt; id_or_rule(alloc, long_in_id.as_str())?.as_str(), too_long);
+    let long_in_http = format!(in alloc; "http://{long}")?;
+    let long_before_scheme = format!(in alloc; "{long}:/x")?;
+    for (text, wanted) in [
+        (fits.as_str(), fits.as_str()),
+        (long.as_str(), TOO_LONG_DOMAIN),
+        (long_and_bad.as_str(), TOO_LONG_DOMAIN),
+        (long_in_http.as_str(), "WrongScheme"),
+        (long_before_scheme.as_str(), "WrongScheme"),
+    ] {
+        assert_eq!(rt; domain_or_rule(alloc, text)?.as_str(), wanted, "{text}");
+    }
+    Ok(())
+}
+
+#[test]
+fn ids_of_long_trust_domains(rt: HostRuntime) -> Result<(), Fail> {
+    let alloc = rt.alloc();
+    let fits = "a".repeat(alloc, 255)?;
+    let long = "?".repeat(alloc, 256)?;
+    for (path, rule) in [
+        ("/", "TrailingSlash"),
+        ("//b", "EmptySegment"),
+        ("/.", "DotSegment"),
+        ("/?", "BadPathSegmentChar"),
+    ] {
+        let text = format!(in alloc; "spiffe://{fits}{path}")?;
+        assert_eq!(rt; id_or_rule(alloc, text.as_str())?.as_str(), rule);
+        let text = format!(in alloc; "spiffe://{long}{path}")?;
+        assert_eq!(rt; id_or_rule(alloc, text.as_str())?.as_str(), TOO_LONG_DOMAIN);
+        let text = format!(in alloc; "http://{long}{path}")?;
+        assert_eq!(rt; id_or_rule(alloc, text.as_str())?.as_str(), "WrongScheme");
+    }
     Ok(())
 }
 
@@ -142,19 +202,33 @@ fn segments(rt: HostRuntime) -> Result<(), Fail> {
             "{row}"
         );
     }
+    Ok(())
+}
+
+#[test]
+fn long_ids(rt: HostRuntime) -> Result<(), Fail> {
+    let alloc = rt.alloc();
     // The limit is on the bytes of the whole id: 9 of the scheme, the trust domain, the path.
-    let too_long = "SpiffeIdTooLong { max: 2048 }";
     let fits = repeated(alloc, "a", 1014)?;
     assert_eq!(rt; made_or_rule(alloc, "example.org", &fits)?.len(), 2048);
     assert_eq!(rt;
         made_or_rule(alloc, "example2.org", &fits)?.as_str(),
-        too_long
+        TOO_LONG_ID
     );
-    let long = repeated(alloc, "a", 1015)?;
-    assert_eq!(rt;
-        made_or_rule(alloc, "example.org", &long)?.as_str(),
-        too_long
-    );
+    for (segment, wanted) in [
+        ("a", TOO_LONG_ID),
+        ("", "EmptySegment"),
+        ("a/b", "BadPathSegmentChar"),
+        ("..", "DotSegment"),
+        ("?", "BadPathSegmentChar"),
+    ] {
+        let mut segments = repeated(alloc, "a", 1015)?;
+        segments.push(String::from_str(alloc, segment)?)?;
+        assert_eq!(rt;
+            made_or_rule(alloc, "example.org", &segments)?.as_str(),
+            wanted
+        );
+    }
     let none = repeated(alloc, "a", 0)?;
     assert_eq!(rt;
         made_or_rule(alloc, "example.org", &none)?.as_str(),

@@ -112,9 +112,10 @@ impl<Params: Encode, Key: Encode> SubjectPublicKeyInfo<Params, Key> {
     ghost use Rattle.spki.specs.Fingerprint.{base64_text, IsOverlength, IsOverlengthOrMemory};
     ghost use Rattle.spki.specs.PublicKey.{public_key_encoding};
 
-    /// The fingerprint as people compare it.
+    /// The fingerprint as people compare it: 44 characters of padded Base64.
     pub fn fingerprint_base64(&self, alloc: Global) -> Result<String>
         ensures value { IfOk result (λ text. string_bytes text ≡ base64_text (sha256 (public_key_encoding Params.encoding Key.encoding self.now))) }
+        ensures len { IfOk result (λ text. length (string_bytes text) ≡ 44) }
         ensures fits { OnOk result (length (public_key_encoding Params.encoding Key.encoding self.now) < 2 ^ 32) }
         ensures overlength { IfErr result (IsOverlengthOrMemory (public_key_encoding Params.encoding Key.encoding self.now)) }
     {

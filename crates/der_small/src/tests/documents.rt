@@ -18,18 +18,29 @@ fn documents_of_one_value(rt: HostRuntime) -> Result<(), Fail> {
         Document::from_der(rt.alloc(), &[0x30]).err(),
         Some(Error::Malformed)
     );
+    Ok(())
+}
+
+#[test]
+fn documents_of_a_type(rt: HostRuntime) -> Result<(), Fail> {
     let ed25519 = ObjectIdentifier::new("1.3.101.112")?;
     let document = Document::encode_msg(rt.alloc(), &ed25519)?;
     assert_eq!(rt; document.as_bytes(), [6, 3, 0x2b, 0x65, 0x70].as_slice());
     assert_eq!(rt; document.decode_msg::<ObjectIdentifier>()?, ed25519);
-    assert!(rt; null < document);
+    assert!(rt; Document::from_der(rt.alloc(), &[5, 0])? < document);
+    Ok(())
+}
+
+#[test]
+fn secret_documents(rt: HostRuntime) -> Result<(), Fail> {
+    let ed25519 = ObjectIdentifier::new("1.3.101.112")?;
     let secret = SecretDocument::encode_msg(rt.alloc(), &ed25519)?;
-    assert_eq!(rt; secret.as_bytes(), document.as_bytes());
+    assert_eq!(rt; secret.as_bytes(), [6, 3, 0x2b, 0x65, 0x70].as_slice());
     assert_eq!(rt; secret.len(), 5);
     assert_eq!(rt; secret.decode_msg::<ObjectIdentifier>()?, ed25519);
     assert_eq!(rt;
         secret,
-        SecretDocument::from_der(rt.alloc(), document.as_bytes())?
+        SecretDocument::from_der(rt.alloc(), secret.as_bytes())?
     );
     let shown = format!(in rt.alloc(); "{secret:?}")?;
     assert_eq!(rt; shown.as_str(), "SecretDocument { len: 5 }");
@@ -73,10 +84,9 @@ fn texts_of_errors(rt: HostRuntime) -> Result<(), Fail> {
     Ok(())
 }
 
-// Calls 0 and 1 write, 2 to 5 read, 6 and 7 fail.
 #[test]
 fn files_of_documents(rt: HostRuntime) -> Result<(), Fail> {
-    let mut disk = MemoryDisk::new(rt.alloc(), vec![in rt.alloc(); 6, 7]?);
+    let mut disk = MemoryDisk::new(rt.alloc(), Vec::new(rt.alloc()));
     let null = Document::from_der(rt.alloc(), &[5, 0])?;
     null.write_der_file(&mut disk, "null")?;
     assert_eq!(rt; disk.write_file("two", &[5, 0, 0]), Ok(()));
@@ -97,6 +107,14 @@ fn files_of_documents(rt: HostRuntime) -> Result<(), Fail> {
         SecretDocument::read_der_file(rt.alloc(), &mut disk, "none").err(),
         Some(Error::FileMissing)
     );
+    Ok(())
+}
+
+// Calls 0 and 1 fail.
+#[test]
+fn faults_of_files(rt: HostRuntime) -> Result<(), Fail> {
+    let mut disk = MemoryDisk::new(rt.alloc(), vec![in rt.alloc(); 0, 1]?);
+    let secret = SecretDocument::from_der(rt.alloc(), &[5, 0])?;
     assert_eq!(rt;
         Document::read_der_file(rt.alloc(), &mut disk, "null").err(),
         Some(Error::FileFault)

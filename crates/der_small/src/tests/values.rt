@@ -87,6 +87,14 @@ fn values_of_any_tag(rt: HostRuntime) -> Result<(), Fail> {
     assert_eq!(rt; owned, Any::from_der(rt.alloc(), &[5, 0])?);
     assert_eq!(rt; owned.to_der(rt.alloc())?.as_slice(), [5, 0].as_slice());
     assert_eq!(rt; AnyRef::new(actual, &[])?, null);
+    Ok(())
+}
+
+#[test]
+fn values_in_values_of_any_tag(rt: HostRuntime) -> Result<(), Fail> {
+    let (Some(expected), Some(actual)) = (Tag::new(Tag::OID), Tag::new(Tag::NULL)) else {
+        return Err(Fail::new("no tags"));
+    };
     let ed25519 = ObjectIdentifier::new("1.3.101.112")?;
     let any = Any::encode_from(rt.alloc(), &ed25519)?;
     assert_eq!(rt; any.tag(), expected);
@@ -106,7 +114,7 @@ fn values_of_any_tag(rt: HostRuntime) -> Result<(), Fail> {
 }
 
 #[test]
-fn bits_octets_and_texts(rt: HostRuntime) -> Result<(), Fail> {
+fn bit_strings(rt: HostRuntime) -> Result<(), Fail> {
     assert_eq!(rt; BitStringRef::new(8, &[0xf0]), Err(Error::Malformed));
     assert_eq!(rt; BitStringRef::new(1, &[]), Err(Error::Malformed));
     let bits = BitStringRef::new(4, &[0xf0])?.ref_to_owned(rt.alloc())?;
@@ -127,11 +135,21 @@ fn bits_octets_and_texts(rt: HostRuntime) -> Result<(), Fail> {
             Err(Error::Malformed)
         );
     }
+    Ok(())
+}
+
+#[test]
+fn octet_strings(rt: HostRuntime) -> Result<(), Fail> {
     let octets = OctetStringRef::new(&[0])?.ref_to_owned(rt.alloc())?;
     assert_eq!(rt; octets.as_bytes(), [0].as_slice());
     assert_eq!(rt; octets.owned_to_ref().as_bytes(), [0].as_slice());
     assert_eq!(rt; octets.to_der(rt.alloc())?.as_slice(), [4, 1, 0].as_slice());
     assert_eq!(rt; OctetString::from_der(rt.alloc(), &[4, 1, 0])?, octets);
+    Ok(())
+}
+
+#[test]
+fn texts(rt: HostRuntime) -> Result<(), Fail> {
     let text = Utf8Ref::new("aé")?;
     assert_eq!(rt;
         text.to_der(rt.alloc())?.as_slice(),
@@ -142,6 +160,11 @@ fn bits_octets_and_texts(rt: HostRuntime) -> Result<(), Fail> {
         "aé"
     );
     assert_eq!(rt; Utf8Ref::from_der(&[0x0c, 1, 0xc3]), Err(Error::Malformed));
+    Ok(())
+}
+
+#[test]
+fn numbers_of_one_byte(rt: HostRuntime) -> Result<(), Fail> {
     let numbers: [(u8, &[u8]); 4] = [
         (0, &[2, 1, 0]),
         (127, &[2, 1, 0x7f]),
@@ -158,6 +181,11 @@ fn bits_octets_and_texts(rt: HostRuntime) -> Result<(), Fail> {
             Err(Error::Malformed)
         );
     }
+    Ok(())
+}
+
+#[test]
+fn tags_of_types(rt: HostRuntime) -> Result<(), Fail> {
     assert_eq!(rt;
         [
             u8::tag_byte(),
@@ -181,6 +209,11 @@ fn orders(rt: HostRuntime) -> Result<(), Fail> {
     assert_eq!(rt; None.der_cmp(&Some(short)), Ok(Ordering::Less));
     assert_eq!(rt; Some(long).der_cmp(&Some(short)), Ok(Ordering::Greater));
     assert_eq!(rt; 200u8.der_cmp(&5), Ok(Ordering::Greater));
+    Ok(())
+}
+
+#[test]
+fn orders_of_values_and_bits(rt: HostRuntime) -> Result<(), Fail> {
     let null = AnyRef::from_der(&[5, 0])?;
     let one = AnyRef::from_der(&[4, 1, 1])?;
     assert_eq!(rt; one.der_cmp(&null), Ok(Ordering::Less));
@@ -188,5 +221,13 @@ fn orders(rt: HostRuntime) -> Result<(), Fail> {
     let bits = BitStringRef::new(0, &[9])?;
     assert_eq!(rt; bits.cmp(&BitStringRef::new(1, &[2])?), Ordering::Less);
     assert_eq!(rt; bits.value_len(), Ok(Length::new(2)));
+    Ok(())
+}
+
+#[test]
+fn sums_of_lengths(rt: HostRuntime) -> Result<(), Fail> {
+    let most = Length::new(0xffff_ffff);
+    assert_eq!(rt; most.checked_add(Length::new(0)), Ok(most));
+    assert_eq!(rt; most.checked_add(Length::new(1)), Err(Error::Overlength));
     Ok(())
 }

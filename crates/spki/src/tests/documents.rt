@@ -1,10 +1,16 @@
 use crate::{
-    DecodePublicKey, EncodePublicKey, Error, SubjectPublicKeyInfoOwned, SubjectPublicKeyInfoRef,
+    AlgorithmIdentifierRef, DecodePublicKey, DigestWriter, EncodePublicKey, Error,
+    SubjectPublicKeyInfo, SubjectPublicKeyInfoOwned, SubjectPublicKeyInfoRef,
+    equal_keys_have_one_fingerprint, parameters_oid_is_second_of_oids, read_keys_are_written_again,
 };
 use base64ct::{Base64, Encoding};
-use der_small::{Decode, DerOrd, Encode, Tag, ValueOrd};
+use der_small::{
+    AnyRef, BitStringRef, Decode, DerOrd, Encode, FixedTag, ObjectIdentifier, Tag, ValueOrd,
+};
 use identity_io::{Disk, MemoryDisk};
+use sha2::{Digest, Sha256};
 use std::cmp::Ordering;
+use std::hash::{DefaultHasher, Hash, Hasher};
 use std::test::Fail;
 
 // An Ed25519 key (RFC 8410, section 4): the document of the specification's example, whose fingerprint is
@@ -46,6 +52,77 @@ fn a_key_in_all_its_forms(rt: HostRuntime) -> Result<(), Fail> {
     assert_eq!(rt; owned.fingerprint_bytes()?, key.fingerprint_bytes()?);
     assert_eq!(rt; key.value_cmp(&key)?, Ordering::Equal);
     assert_eq!(rt; key.der_cmp(&owned.owned_to_ref())?, Ordering::Equal);
+    Ok(())
+}
+
+// The worked document of a key on P-256 (RFC 5480, section 2), and its digest by
+// `openssl dgst -sha256 -binary | base64`.
+const P256: [u8; 91] = [
+    0x30, 0x59, 0x30, 0x13, 0x06, 0x07, 0x2a, 0x86, 0x48, 0xce, 0x3d, 0x02, 0x01, 0x06, 0x08, 0x2a,
+    0x86, 0x48, 0xce, 0x3d, 0x03, 0x01, 0x07, 0x03, 0x42, 0x00, 0x04, 0x1c, 0xac, 0xff, 0xb5, 0x5f,
+    0x2f, 0x2c, 0xef, 0xd8, 0x9d, 0x89, 0xeb, 0x37, 0x4b, 0x26, 0x81, 0x15, 0x24, 0x52, 0x80, 0x2d,
+    0xee, 0xa0, 0x99, 0x16, 0x06, 0x81, 0x37, 0xd8, 0x39, 0xcf, 0x7f, 0xc4, 0x81, 0xa4, 0x44, 0x92,
+    0x30, 0x4d, 0x7e, 0xf6, 0x6a, 0xc1, 0x17, 0xbe, 0xfe, 0x83, 0xa8, 0xd0, 0x8f, 0x15, 0x5f, 0x2b,
+    0x52, 0xf9, 0xf6, 0x18, 0xdd, 0x44, 0x70, 0x29, 0x04, 0x8e, 0x0f,
+];
+
+const P256_FINGERPRINT: &str = "uZaNVu2NaqP7Q7FfoB41XXo6AgOxQIs/0nM2N8TRZCw=";
+
+#[test]
+fn a_key_on_p256(rt: HostRuntime) -> Result<(), Fail> {
+    let ec = ObjectIdentifier::new("1.2.840.10045.2.1")?;
+    let curve = ObjectIdentifier::new("1.2.840.10045.3.1.7")?;
+    let key = SubjectPublicKeyInfoRef::from_der(&P256)?;
+    assert_eq!(rt; key.algorithm.oids()?, (ec, Some(curve)));
+    assert_eq!(rt; key.algorithm.parameters_oid()?, curve);
+    assert_eq!(rt; key.subject_public_key.unused_bits(), 0);
+    assert_eq!(rt; key.subject_public_key.raw_bytes(), &P256[26..]);
+    assert_eq!(rt; key.to_der(rt.alloc())?.as_slice(), P256.as_slice());
+    Ok(())
+}
+
+// The same over parameters that are an object identifier.
+#[test]
+fn a_key_on_a_named_curve(rt: HostRuntime) -> Result<(), Fail> {
+    let curve = ObjectIdentifier::new("1.2.840.10045.3.1.7")?;
+    let key = SubjectPublicKeyInfo::<ObjectIdentifier, BitStringRef>::from_der(&P256)?;
+    assert_eq!(rt; key.algorithm.parameters, Some(curve));
+    assert_eq!(rt; key.to_document(rt.alloc())?.as_bytes(), P256.as_slice());
+    assert_eq!(rt;
+        key.fingerprint_base64(rt.alloc())?.as_str(),
+        P256_FINGERPRINT
+    );
+    Ok(())
+}
+
+fn hash_of<T: Hash>(value: &T) -> u64 {
+    let mut state = DefaultHasher::new();
+    value.hash(&mut state);
+    state.finish()
+}
+
+#[test]
+fn hashes_and_the_writer_of_a_digest(rt: HostRuntime) -> Result<(), Fail> {
+    let key = SubjectPublicKeyInfoRef::from_der(&P256)?;
+    let mut hasher = Sha256::new();
+    key.encode(&mut DigestWriter(&mut hasher))?;
+    assert_eq!(rt; key.fingerprint_bytes()?, hasher.finalize());
+    let owned = key.ref_to_owned(rt.alloc())?;
+    assert_eq!(rt; hash_of(&key), hash_of(&owned.owned_to_ref()));
+    assert_eq!(rt;
+        hash_of(&key.algorithm),
+        hash_of(&owned.algorithm.owned_to_ref())
+    );
+    assert_eq!(rt;
+        (
+            SubjectPublicKeyInfoRef::tag_byte(),
+            AlgorithmIdentifierRef::tag_byte()
+        ),
+        (Tag::SEQUENCE, Tag::SEQUENCE)
+    );
+    read_keys_are_written_again::<AnyRef, BitStringRef>();
+    parameters_oid_is_second_of_oids();
+    equal_keys_have_one_fingerprint();
     Ok(())
 }
 

@@ -1,7 +1,11 @@
 use Rattle.std.proofs.Common.{◌≡◌, ◌∷◌, true, false, [], codes, ap, sym, ◌∙◌}
 use Rattle.identity_source.specs.Document.{Fields, Parts}
+use Rattle.identity_source.proofs.DocumentLaws.{bits_fit}
 use Rattle.identity_source.proofs.PlainLaws.{domain_is_text, id_is_text, not_unequal, same_segment}
 use Rattle.identity_source.proofs.plain.show.Goals as goal
+
+pub bits_in-requires : goal.bits_in-requires
+bits_in-requires c = bits_fit _ _ c.requires
 
 pub returns-in_default-from_utf8-clause-none : goal.returns-in_default-from_utf8-clause-none
 returns-in_default-from_utf8-clause-none c = λ p parts e.
@@ -40,7 +44,7 @@ returns-clause-plain c =
         domain = c.is_domain.ensures.0 c.if-not-is_domain.false;
         segment = c.is_segment.ensures.0 c.if-not-is_segment.false;
         oid = c.in-Ok.ensures.content;
-        bits = c.are_bits.ensures.0 c.if-not-are_bits.false;
+        bits = c.in-Some-bits_in.ensures.bits;
       },
       cc,
     )
