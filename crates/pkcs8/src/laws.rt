@@ -12,6 +12,7 @@ ghost use Rattle.pkcs8.specs.declared.private_key_info.PrivateKeyInfo.{PrivateKe
 
 use crate::{BitStringLike, PrivateKeyInfo, PrivateKeyInfoOwned, PrivateKeyInfoRef};
 use der_small::{Choice, Decode, Encode, FixedTag, LawfulValue};
+use spki::AlgorithmIdentifier;
 use std::fmt;
 
 /// What is written of a private key is read as that key, of whatever lawful types its parts are.
@@ -34,6 +35,11 @@ pub fn read_keys_are_read_again()
 pub fn equal_keys_have_equal_parts()
     ensures borrowed { (a b : KeyOf AnyRefValue OctetsRefValue BitsRefValue) → (⟦<PrivateKeyInfoRef<'static> as PartialEq>⟧.eq a b ≡ true) ↔ (plain_private_key_ref a ≡ plain_private_key_ref b) }
     ensures owned { (a b : KeyOf AnyValue OctetsValue BitsValue) → (⟦<PrivateKeyInfoOwned as PartialEq>⟧.eq a b ≡ true) ↔ (plain_private_key a ≡ plain_private_key b) }
+{}
+
+/// Private keys are equal exactly where their algorithms, their private keys and their public keys are, of whatever types these are.
+pub fn equal_keys_are_equal_in_each_part<Params: PartialEq, Key: PartialEq, PubKey: PartialEq>()
+    ensures { (a b : KeyOf Params Key PubKey) → (⟦<PrivateKeyInfo<Params, Key, PubKey> as PartialEq>⟧.eq a b ≡ true) ↔ ((⟦<AlgorithmIdentifier<Params> as PartialEq>⟧.eq a.algorithm b.algorithm ≡ true) × (Key.eq a.private_key b.private_key ≡ true) × (⟦<Option<PubKey> as PartialEq>⟧.eq a.public_key b.public_key ≡ true)) }
 {}
 
 /// What `Debug` shows of a private key is known whatever its parts are, and is the same of keys whose private octets alone differ.

@@ -2,7 +2,7 @@ use crate::{
     DecodePrivateKey, EncodePrivateKey, PrivateKeyInfo, PrivateKeyInfoOwned, PrivateKeyInfoRef,
     Version,
 };
-use der_small::{Decode, Encode};
+use der_small::{BitStringRef, Decode, Encode, ObjectIdentifier, OctetStringRef};
 use std::test::Fail;
 
 // By `openssl genpkey -algorithm ed25519 -outform DER`.
@@ -81,6 +81,17 @@ fn a_key_with_parameters(rt: HostRuntime) -> Result<(), Fail> {
     assert_eq!(rt; key.private_key.as_bytes(), &P256[29..]);
     let document = key.to_secret_document(rt.alloc())?;
     assert_eq!(rt; document.as_bytes(), P256.as_slice());
+    Ok(())
+}
+
+#[test]
+fn parameters_of_another_type(rt: HostRuntime) -> Result<(), Fail> {
+    let key = PrivateKeyInfo::<ObjectIdentifier, OctetStringRef, BitStringRef>::from_der(&P256)?;
+    assert_eq!(rt;
+        key.algorithm.parameters,
+        Some(ObjectIdentifier::new("1.2.840.10045.3.1.7")?)
+    );
+    assert_eq!(rt; key.to_der(rt.alloc())?.as_slice(), P256.as_slice());
     Ok(())
 }
 
