@@ -1,0 +1,12 @@
+-- What the contracts of this crate cite.
+pub mod Answers
+pub mod Error
+pub mod Extensions
+pub mod KeyFiles
+pub mod PlainPrivateKey
+pub mod PrivateKey
+pub mod PrivateKeyInfo
+pub mod ReadLaws
+pub mod Shown
+pub mod ShownEncoding
+pub mod Version

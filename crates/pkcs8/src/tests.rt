@@ -1,0 +1,5 @@
+mod documents;
+mod errors;
+mod files;
+mod grammar;
+mod shown;
