@@ -9,6 +9,7 @@ ghost use Rattle.base64ct.specs.Counts.{decode_count};
 use crate::{
     Base64, Base64Bcrypt, Base64Crypt, Base64Pbkdf2, Base64ShaCrypt, Base64Unpadded, Base64Url,
     Base64UrlUnpadded, Decoder, Encoding, Error, InvalidEncodingError, InvalidLengthError, Steps,
+    lines_have_one_join, text_has_one_value, unclean_texts_take_one_count,
 };
 use std::alloc::Global;
 use std::marker::Brand;
@@ -53,6 +54,23 @@ fn decodes_lines(rt: HostRuntime) {
         let result = decoded(rt.alloc(), text, width).expect(&rt, "an accepted text");
         assert_eq!(rt; result.as_slice(), bytes, "at {width}");
     }
+}
+
+#[test]
+fn appends_to_a_vector(rt: HostRuntime) {
+    let mut bytes = Vec::from_slice(rt.alloc(), &[7]).expect(&rt, "memory");
+    let mut decoder = Decoder::<Base64>::new_wrapped(MIXED, 64).expect(&rt, "lines");
+    assert_eq!(rt; decoder.remaining_len(), 153);
+    assert_eq!(rt; decoder.append_to(&mut bytes), Ok(153));
+    assert_eq!(rt; decoder.remaining_len(), 0);
+    assert_eq!(rt; decoder.append_to(&mut bytes), Ok(0));
+    assert_eq!(rt; bytes.len(), 154);
+    assert_eq!(rt; bytes.first(), Some(&7));
+    assert_eq!(rt; &bytes[1..], DOCUMENT);
+    let mut refused = Decoder::<Base64>::new_wrapped(b"A!AA\nAA==", 4).expect(&rt, "lines");
+    assert_eq!(rt; refused.append_to(&mut bytes), Err(Error::InvalidEncoding));
+    assert_eq!(rt; refused.remaining_len(), 4);
+    assert_eq!(rt; bytes.len(), 154);
 }
 
 // From the eighth on each differs in one place from the text `AAAA`, LF, `AAAA`, LF, `AA==`.
@@ -402,4 +420,11 @@ fn counts_a_thousand_characters(rt: HostRuntime) {
         counted::<Base64Unpadded>(&mut [b'A'; 1000]),
         (true, true, true)
     );
+}
+
+#[test]
+fn laws(_rt: HostRuntime) {
+    lines_have_one_join();
+    text_has_one_value::<Base64>();
+    unclean_texts_take_one_count::<Base64>();
 }

@@ -3,6 +3,7 @@ mod near_misses;
 
 use crate::run::run;
 use identity_io::{LIMIT, MemorySink, MemorySource};
+use identity_source::text_has_one_reading;
 use long_names::LONG_NAMES;
 use near_misses::NEAR_MISSES;
 use std::alloc::AllocError;
@@ -173,4 +174,9 @@ fn long_names_are_printed(rt: HostRuntime) -> Result<(), Fail> {
         assert!(rt; room.starts_with(printed.as_bytes()), "{id}");
     }
     Ok(())
+}
+
+#[test]
+fn laws(_rt: HostRuntime) {
+    text_has_one_reading();
 }

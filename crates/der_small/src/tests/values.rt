@@ -1,6 +1,7 @@
 use crate::{
     Any, AnyRef, BitString, BitStringRef, Choice, Cursor, Decode, DerOrd, Encode, EncodeValue,
     Error, FixedTag, Length, ObjectIdentifier, OctetString, OctetStringRef, Tag, Utf8Ref, ValueOrd,
+    encoding_has_one_value, no_encoding_begins_another, no_value_begins_another,
 };
 use std::alloc::AllocError;
 use std::cmp::Ordering;
@@ -230,4 +231,11 @@ fn sums_of_lengths(rt: HostRuntime) -> Result<(), Fail> {
     assert_eq!(rt; most.checked_add(Length::new(0)), Ok(most));
     assert_eq!(rt; most.checked_add(Length::new(1)), Err(Error::Overlength));
     Ok(())
+}
+
+#[test]
+fn laws(_rt: HostRuntime) {
+    encoding_has_one_value();
+    no_value_begins_another();
+    no_encoding_begins_another::<OctetStringRef>();
 }

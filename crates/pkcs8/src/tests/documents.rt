@@ -1,9 +1,17 @@
 use crate::{
-    DecodePrivateKey, EncodePrivateKey, PrivateKeyInfo, PrivateKeyInfoOwned, PrivateKeyInfoRef,
-    Version,
+    BitStringLike, DecodePrivateKey, EncodePrivateKey, PrivateKeyInfo, PrivateKeyInfoOwned,
+    PrivateKeyInfoRef, Version, equal_keys_are_equal_in_each_part, equal_keys_have_equal_parts,
+    read_keys_are_read_again, shown_keys_hide_private_octets, written_keys_are_read,
 };
-use der_small::{BitStringRef, Decode, Encode, ObjectIdentifier, OctetStringRef};
+use der_small::{AnyRef, BitStringRef, Decode, Encode, ObjectIdentifier, OctetStringRef};
 use std::test::Fail;
+
+// The worked document of an Ed25519 key (RFC 8410, section 7): 32 octets 11.
+pub(super) const WORKED: [u8; 48] = [
+    0x30, 0x2e, 0x02, 0x01, 0x00, 0x30, 0x05, 0x06, 0x03, 0x2b, 0x65, 0x70, 0x04, 0x22, 0x04, 0x20,
+    0x11, 0x11, 0x11, 0x11, 0x11, 0x11, 0x11, 0x11, 0x11, 0x11, 0x11, 0x11, 0x11, 0x11, 0x11, 0x11,
+    0x11, 0x11, 0x11, 0x11, 0x11, 0x11, 0x11, 0x11, 0x11, 0x11, 0x11, 0x11, 0x11, 0x11, 0x11, 0x11,
+];
 
 // By `openssl genpkey -algorithm ed25519 -outform DER`.
 pub(super) const ED25519: [u8; 48] = [
@@ -14,19 +22,19 @@ pub(super) const ED25519: [u8; 48] = [
 
 #[test]
 fn a_key_in_all_its_forms(rt: HostRuntime) -> Result<(), Fail> {
-    let key = PrivateKeyInfoRef::from_der(&ED25519)?;
+    let key = PrivateKeyInfoRef::from_der(&WORKED)?;
     assert_eq!(rt; key.version(), Version::V1);
     assert_eq!(rt; key.algorithm.oid.as_bytes(), [0x2b, 0x65, 0x70].as_slice());
-    assert_eq!(rt; key.private_key.as_bytes(), &ED25519[14..]);
-    assert_eq!(rt; key.to_der(rt.alloc())?.as_slice(), ED25519.as_slice());
+    assert_eq!(rt; key.private_key.as_bytes(), &WORKED[14..]);
+    assert_eq!(rt; key.to_der(rt.alloc())?.as_slice(), WORKED.as_slice());
     let document = key.to_secret_document(rt.alloc())?;
-    assert_eq!(rt; document.as_bytes(), ED25519.as_slice());
+    assert_eq!(rt; document.as_bytes(), WORKED.as_slice());
     assert_eq!(rt;
         format!(in rt.alloc(); "{document:?}")?.as_str(),
         "SecretDocument { len: 48 }"
     );
     let document = key.to_pkcs8_der(rt.alloc())?;
-    assert_eq!(rt; document.as_bytes(), ED25519.as_slice());
+    assert_eq!(rt; document.as_bytes(), WORKED.as_slice());
     let made: PrivateKeyInfoRef = PrivateKeyInfo::new(key.algorithm, key.private_key);
     assert_eq!(rt; made, key);
     Ok(())
@@ -34,17 +42,26 @@ fn a_key_in_all_its_forms(rt: HostRuntime) -> Result<(), Fail> {
 
 #[test]
 fn a_key_with_bytes_of_its_own(rt: HostRuntime) -> Result<(), Fail> {
-    let key = PrivateKeyInfoRef::from_der(&ED25519)?;
+    let key = PrivateKeyInfoRef::from_der(&WORKED)?;
     let owned = key.ref_to_owned(rt.alloc())?;
-    assert_eq!(rt; owned, PrivateKeyInfoOwned::from_der(rt.alloc(), &ED25519)?);
+    assert_eq!(rt; owned, PrivateKeyInfoOwned::from_der(rt.alloc(), &WORKED)?);
     assert_eq!(rt;
         owned,
-        PrivateKeyInfoOwned::from_pkcs8_der(rt.alloc(), &ED25519)?
+        PrivateKeyInfoOwned::from_pkcs8_der(rt.alloc(), &WORKED)?
     );
     assert_eq!(rt; owned.version(), Version::V1);
     assert_eq!(rt; owned.owned_to_ref(), key);
     let document = owned.to_pkcs8_der(rt.alloc())?;
-    assert_eq!(rt; document.as_bytes(), ED25519.as_slice());
+    assert_eq!(rt; document.as_bytes(), WORKED.as_slice());
+    Ok(())
+}
+
+#[test]
+fn a_key_by_openssl(rt: HostRuntime) -> Result<(), Fail> {
+    let key = PrivateKeyInfoRef::from_der(&ED25519)?;
+    assert_eq!(rt; key.version(), Version::V1);
+    assert_eq!(rt; key.private_key.as_bytes(), &ED25519[14..]);
+    assert_eq!(rt; key.to_der(rt.alloc())?.as_slice(), ED25519.as_slice());
     Ok(())
 }
 
@@ -127,6 +144,7 @@ fn a_key_with_attributes_and_public_key(rt: HostRuntime) -> Result<(), Fail> {
     assert_eq!(rt; again, key);
     let owned = again.ref_to_owned(rt.alloc())?;
     assert_eq!(rt; owned.owned_to_ref(), key);
+    assert_eq!(rt; owned.to_der(rt.alloc())?.as_slice(), bytes);
     Ok(())
 }
 
@@ -143,4 +161,22 @@ fn keys_differ_in_each_part(rt: HostRuntime) -> Result<(), Fail> {
     let of_curve: PrivateKeyInfoRef = PrivateKeyInfo::new(curve.algorithm, key.private_key);
     assert!(rt; of_curve != without);
     Ok(())
+}
+
+#[test]
+fn bit_strings_of_public_keys(rt: HostRuntime) -> Result<(), Fail> {
+    let bits = BitStringRef::new(4, &[0xf0])?;
+    let owned = bits.ref_to_owned(rt.alloc())?;
+    assert_eq!(rt; bits.as_bit_string(), bits);
+    assert_eq!(rt; owned.as_bit_string(), bits);
+    Ok(())
+}
+
+#[test]
+fn laws(_rt: HostRuntime) {
+    written_keys_are_read::<AnyRef, OctetStringRef, BitStringRef>();
+    read_keys_are_read_again();
+    equal_keys_have_equal_parts();
+    equal_keys_are_equal_in_each_part::<AnyRef, OctetStringRef, BitStringRef>();
+    shown_keys_hide_private_octets::<AnyRef, OctetStringRef, BitStringRef>();
 }

@@ -1,5 +1,5 @@
-use super::documents::ED25519;
-use crate::{PrivateKeyInfoOwned, PrivateKeyInfoRef, Version};
+use super::documents::WORKED;
+use crate::{DecodePrivateKey, EncodePrivateKey, PrivateKeyInfoOwned, PrivateKeyInfoRef, Version};
 use der_small::{Decode, Encode};
 use std::alloc::{AllocError, Global};
 use std::test::Fail;
@@ -92,6 +92,18 @@ fn documents_of_every_form(rt: HostRuntime) -> Result<(), Fail> {
     Ok(())
 }
 
+// Attributes are no part of the value.
+#[test]
+fn a_key_with_attributes_is_the_key(rt: HostRuntime) -> Result<(), Fail> {
+    let bytes = document(rt.alloc(), "3030020100", &["a000", "", ""])?;
+    let key = PrivateKeyInfoOwned::from_pkcs8_der(rt.alloc(), &bytes)?;
+    let worked = PrivateKeyInfoOwned::from_pkcs8_der(rt.alloc(), &WORKED)?;
+    assert_eq!(rt; key, worked);
+    let written = key.to_pkcs8_der(rt.alloc())?;
+    assert_eq!(rt; written.as_bytes(), WORKED.as_slice());
+    Ok(())
+}
+
 #[test]
 fn near_misses(rt: HostRuntime) -> Result<(), Fail> {
     let rows = [
@@ -170,10 +182,10 @@ fn near_misses(rt: HostRuntime) -> Result<(), Fail> {
 #[test]
 fn documents_of_another_length(rt: HostRuntime) -> Result<(), Fail> {
     assert_eq!(rt;
-        PrivateKeyInfoRef::from_der(&ED25519[..47]).err(),
+        PrivateKeyInfoRef::from_der(&WORKED[..47]).err(),
         Some(der_small::Error::Malformed)
     );
-    let mut bytes = Vec::from_slice(rt.alloc(), &ED25519)?;
+    let mut bytes = Vec::from_slice(rt.alloc(), &WORKED)?;
     bytes.push(0)?;
     assert_eq!(rt;
         PrivateKeyInfoRef::from_der(&bytes).err(),
