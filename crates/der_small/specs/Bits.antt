@@ -1,5 +1,5 @@
 -- The parts of a bit string (X.690, 8.6.2).
-use Rattle.std.specs.Prelude.{◌≡◌, ◌⊎◌, ℕ, ◌+◌, ◌<◌, ◌≤◌, ◌^◌, List, [], ◌∷◌, length}
+use Rattle.std.specs.Prelude.{◌≡◌, ◌⊎◌, ℕ, ◌+◌, ◌<◌, ◌^◌, List, [], ◌∷◌, length}
 
 -- At most seven bits are unused, and none where no octet follows. The content has fewer than 2 ^ 32 bytes.
 pub record AreBits (unused : ℕ) (raw : List ℕ) : Type 0 where

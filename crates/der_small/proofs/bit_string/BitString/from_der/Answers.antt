@@ -1,8 +1,8 @@
 -- What the borrowed form reads.
-use Rattle.std.proofs.Common.{◌≡◌, ◌<◌, ◌^◌, ◌∷◌, List, ℕ, length, sym}
+use Rattle.std.proofs.Common.{◌≡◌, ◌∷◌, List, ℕ}
 use Rattle.der_core.specs.Decode.{ReadsTagged}
 use Rattle.der_core.proofs.Owned.{same_tagged, owned_refusal}
-use Rattle.der_small.specs.Bits.{PlainBits, BitsContent}
+use Rattle.der_small.specs.Bits.{BitsContent}
 use Rattle.der_small.specs.BitString.{plain_bits_ref, plain_bits}
 use Rattle.der_small.specs.declared.bit_string.BitStringRef.{BitStringRef}
 use Rattle.der_small.proofs.bit_string.BitString.from_der.Goals as goal

@@ -1,5 +1,5 @@
 -- What the borrowed form reads.
-use Rattle.std.proofs.Common.{◌≡◌, ◌<◌, ◌^◌, List, ℕ, length}
+use Rattle.std.proofs.Common.{◌≡◌, List, ℕ}
 use Rattle.der_core.specs.Decode.{ReadsTagged}
 use Rattle.der_core.proofs.Owned.{same_tagged, owned_refusal}
 use Rattle.der_small.specs.OctetString.{octets_ref, octets}

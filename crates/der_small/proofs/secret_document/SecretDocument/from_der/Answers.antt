@@ -1,5 +1,5 @@
 -- What a value of any tag reads.
-use Rattle.std.proofs.Common.{◌≡◌, ◌<◌, ◌^◌, List, ℕ, length, sym}
+use Rattle.std.proofs.Common.{◌<◌, ◌^◌, List, ℕ, length, sym}
 use Rattle.der_core.specs.Decode.{ReadsAny, ReadsAny-one_value}
 use Rattle.der_core.specs.Der.{encode}
 use Rattle.der_core.specs.Laws.{content_fits}
