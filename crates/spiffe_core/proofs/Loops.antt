@@ -3,11 +3,11 @@ use Rattle.std.proofs.Common.{◌≡◌, ℕ, List, [], ◌∷◌, ◌++◌, len
 use Rattle.spiffe_id.specs.Rules.{map_ok}
 use Rattle.spiffe_core.specs.declared.error.JwtBundleError.{JwtBundleError}
 use Rattle.spiffe_core.specs.JwtAuthority.{Authority}
-use Rattle.spiffe_core.specs.Entries.{Entries, with_entry, IsAscending}
+use Rattle.spiffe_core.specs.Entries.{AreNamed, Entries, with_entry, IsAscending}
 use Rattle.spiffe_core.specs.KeySet.{Authorities, with_authority}
 use Rattle.spiffe_core.specs.JwtBundle.{Bundle}
 use Rattle.spiffe_core.specs.JwtBundleSet.{Bundles, with_bundles, IsPartlyExtended}
-use Rattle.spiffe_core.proofs.MapEntries.{goes_last}
+use Rattle.spiffe_core.proofs.MapEntries.{goes_last, named_among}
 
 -- the first authority goes into the map before the others
 pub one_more : (found : Authorities) (a : Authority) (more : Result (List Authority) JwtBundleError)
@@ -20,6 +20,13 @@ pub copied_more : {V : Type 0} (all copied new rest : Entries V) (k : List ℕ) 
 copied_more all copied new rest k v ascending so_far is =
     let whole : IsAscending (copied ++ (k, v) ∷ rest) = rw so_far ascending in
     rw (is, goes_last copied rest k v whole, append_assoc) so_far
+
+-- the same, where each value stands at the text that it bears
+pub copied_named : {V : Type 0} (name : V → List ℕ) (all copied new rest : Entries V) (k : List ℕ) (v : V) → IsAscending all → AreNamed name all → copied ++ (k, v) ∷ rest ≡ all → new ≡ with_entry copied (name v) v → new ++ rest ≡ all
+copied_named name all copied new rest k v ascending named so_far is =
+    let whole : AreNamed name (copied ++ (k, v) ∷ rest) = rw so_far named in
+    let here : k ≡ name v = named_among name copied rest k v whole in
+    copied_more all copied new rest k v ascending so_far (rw here is)
 
 taken : (done rest : List Bundle) → take (length done) (done ++ rest) ≡ done
 taken [] rest = refl

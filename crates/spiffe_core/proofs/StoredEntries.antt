@@ -1,5 +1,5 @@
 -- A stored map beside its entries.
-use Rattle.std.proofs.Common.{◌≡◌, ℕ, List, [], ◌∷◌, Bool, ◌&&◌, Option, Some, None, option_map, map, cond, Global, Bor, nat_eq, nat_cmp, is_eq, Ordering, Less, Equal, Greater, refl, ap, ◌∙◌}
+use Rattle.std.proofs.Common.{◌≡◌, ℕ, List, [], ◌∷◌, Bool, ◌&&◌, Option, Some, None, IfSome, option_map, map, cond, Global, Bor, nat_eq, nat_cmp, is_eq, Ordering, Less, Equal, Greater, refl, ap, ◌∙◌}
 use Rattle.std.specs.declared.sync.Arc.{Arc}
 use Rattle.std.specs.Arc.{arc_value}
 use Rattle.std.specs.Cmp.Lexicographic.{pointwise, slice_cmp}
@@ -8,11 +8,20 @@ use Rattle.std.specs.List.{AllZip, AllByRecursion}
 use Rattle.std.specs.List.Sorted.{IsStrictlySortedBy}
 use Rattle.std.specs.Ordering.{match_ordering}
 use Rattle.std.specs.BTreeMap.{insert_entry, is_at}
-use Rattle.spiffe_core.specs.Entries.{Entries, with_entry, find_entry, IsAscending, entries_eq, stored_entries}
+use Rattle.spiffe_core.specs.Entries.{Entries, AreNamed, with_entry, find_entry, IsAscending, entries_eq, stored_entries}
+use Rattle.spiffe_core.proofs.MapEntries.{named_at}
 
 behind : {V : Type 0} → (r : Option (Bor (Arc V Global))) → option_map (λ a. arc_value a.now) r ≡ option_map arc_value (option_map (λ a. a.now) r)
 behind None = refl
 behind (Some a) = refl
+
+-- what is lent of a map whose values stand at the texts they bear
+pub named_found : {V : Type 0} (name : V → List ℕ) (q : List ℕ) (es : Entries V) (r : Option (Bor (Arc V Global))) → AreNamed name es → option_map (λ a. arc_value a.now) r ≡ find_entry q es
+    → IfSome r (λ a. name (arc_value a.now) ≡ q)
+named_found name q es None h e = tt
+named_found {V = V} name q es (Some a) h e =
+    let found : IfSome (find_entry q es) (λ v. name v ≡ q) = named_at {V = V} name q es h in
+    rw (← e) at found
 
 abbrev Stored : Type 0 → Type 0 → Type 0
 Stored K V = List (K × Arc V Global)

@@ -1,11 +1,12 @@
 -- A map from texts, as the list of its entries in ascending order of the texts' bytes.
-use Rattle.std.specs.Prelude.{ℕ, nat_eq, List, Bool, ◌&&◌, Option, map}
+use Rattle.std.specs.Prelude.{◌≡◌, ℕ, nat_eq, List, Bool, ◌&&◌, Option, map}
 use Rattle.std.specs.declared.alloc.Global.{Global}
 use Rattle.std.specs.declared.sync.Arc.{Arc}
 use Rattle.std.specs.Arc.{arc_value}
 use Rattle.std.specs.Ordering.{nat_cmp}
 use Rattle.std.specs.Cmp.{IsEquivalence, and_equiv, on_equiv}
 use Rattle.std.specs.Cmp.Lexicographic.{pointwise, slice_cmp, lists_equiv, nat_list_eq_equiv}
+use Rattle.std.specs.List.{AllByRecursion}
 use Rattle.std.specs.List.Sorted.{IsStrictlySortedBy}
 use Rattle.std.specs.Map.{lookup, keys_of}
 use Rattle.std.specs.BTreeMap.{insert_entry, is_at}
@@ -23,6 +24,10 @@ find_entry k es = lookup (is_at (slice_cmp nat_cmp k)) es
 -- each text is below those after it, so it stands once
 abbrev pub IsAscending : {V : Type 0} → Entries V → Type 0
 IsAscending es = IsStrictlySortedBy (slice_cmp nat_cmp) (keys_of es)
+
+-- each value stands at the text that it bears
+abbrev pub AreNamed : {V : Type 0} → (V → List ℕ) → Entries V → Type 0
+AreNamed name es = AllByRecursion (λ e. e.0 ≡ name e.1) es
 
 -- equal texts in turn, and values that `eq` holds equal
 abbrev pub entries_eq : {V : Type 0} → (V → V → Bool) → Entries V → Entries V → Bool

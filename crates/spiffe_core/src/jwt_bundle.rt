@@ -1,5 +1,5 @@
 //! JWT bundles.
-ghost use Rattle.std.specs.Prelude.{◌≡◌, ◌≢◌, ◌≤◌, ℕ, List, [], map, Some, Ok, IfOk, IfErr, OnOk, OnErr, false, option_map};
+ghost use Rattle.std.specs.Prelude.{◌≡◌, ◌≢◌, ◌≤◌, ℕ, List, [], map, Some, Ok, IfOk, IfErr, IfSome, OnOk, OnErr, false, option_map};
 ghost use Rattle.std.specs.Arc.{arc_value};
 ghost use Rattle.std.specs.Cmp.{partial_equiv_from_equiv};
 ghost use Rattle.std.specs.Map.{values_of};
@@ -8,7 +8,7 @@ ghost use Rattle.serde_json.specs.Read.{max_depth};
 ghost use Rattle.serde_json.specs.View.{view, items_view};
 ghost use Rattle.serde_json.specs.Written.{items_have_float};
 ghost use Rattle.spiffe_id.specs.Rules.{map_ok};
-ghost use Rattle.spiffe_core.specs.Entries.{IsAscending};
+ghost use Rattle.spiffe_core.specs.Entries.{AreNamed, IsAscending};
 ghost use Rattle.spiffe_core.specs.JwtBundleError.{IsRefusal};
 ghost use Rattle.spiffe_core.specs.JwtAuthority.{Authority, jwk_of};
 ghost use Rattle.spiffe_core.specs.KeySet.{with_authority, find_authority, authorities_of, by_key_id, keys_of, key_set_of};
@@ -35,11 +35,15 @@ pub struct JwtBundle {
 }
 
 impl Model for JwtBundle {
+    ghost use Rattle.spiffe_core.specs.Entries.{AreNamed};
     ghost use Rattle.spiffe_core.specs.JwtBundle.{Bundle, stored_authorities};
 
     ghost Value = { Bundle };
 
     ghost view = { λ b. record { trust_domain = b.trust_domain; authorities = stored_authorities b.jwt_authorities.entries } };
+
+    // Each authority stands at its own key ID.
+    ghost invariant = { λ b. AreNamed (λ a. a.key_id) (stored_authorities b.jwt_authorities.entries) };
 }
 
 impl JwtBundle {
@@ -80,8 +84,9 @@ impl JwtBundle {
 
     /// The authority that a token's key ID names.
     pub fn find_jwt_authority(&self, key_id: &str) -> Option<&Arc<JwtAuthority>>
-        ensures { option_map (λ a. arc_value a.now) result
+        ensures found { option_map (λ a. arc_value a.now) result
             ≡ find_authority key_id.now self.now.authorities }
+        ensures named { IfSome result (λ a. (arc_value a.now).key_id ≡ key_id.now) }
     {
         self.jwt_authorities.get(key_id)
     }
@@ -119,6 +124,7 @@ impl JwtBundle {
     pub fn jwt_authorities(&self) -> JwtAuthorities<'_>
         ensures all { result ≡ values_of self.now.authorities }
         ensures ascending { IsAscending self.now.authorities }
+        ensures named { AreNamed (λ a. a.key_id) self.now.authorities }
     {
         JwtAuthorities {
             inner: self.jwt_authorities.values(),

@@ -1,8 +1,8 @@
 //! Sets of JWT bundles.
-ghost use Rattle.std.specs.Prelude.{◌≡◌, ◌≢◌, ◌↔◌, ℕ, List, [], length, Some, Ok, IfOk, IfErr, OnOk, OnErr, IsTrue, option_map};
+ghost use Rattle.std.specs.Prelude.{◌≡◌, ◌≢◌, ◌↔◌, ℕ, List, [], length, Some, Ok, IfOk, IfErr, IfSome, OnOk, OnErr, IsTrue, option_map};
 ghost use Rattle.std.specs.Arc.{arc_value};
 ghost use Rattle.std.specs.Cmp.{partial_equiv_from_equiv};
-ghost use Rattle.spiffe_core.specs.Entries.{IsAscending, with_entry};
+ghost use Rattle.spiffe_core.specs.Entries.{AreNamed, IsAscending};
 ghost use Rattle.spiffe_core.specs.JwtBundleSet.{with_bundle, find_bundle, with_bundles, IsPartlyExtended, set_eq, set_equiv};
 
 use crate::bundle_source::BundleSource;
@@ -25,11 +25,15 @@ pub struct JwtBundleSet {
 }
 
 impl Model for JwtBundleSet {
+    ghost use Rattle.spiffe_core.specs.Entries.{AreNamed};
     ghost use Rattle.spiffe_core.specs.JwtBundleSet.{Bundles, stored_bundles};
 
     ghost Value = { Bundles };
 
     ghost view = { λ s. stored_bundles s.bundles.entries };
+
+    // Each bundle stands at its own trust domain.
+    ghost invariant = { λ s. AreNamed (λ b. b.trust_domain) (stored_bundles s.bundles.entries) };
 }
 
 impl JwtBundleSet {
@@ -52,10 +56,8 @@ impl JwtBundleSet {
         ensures err { IfErr result (λ e. e ≡ JwtBundleError.OutOfMemory) }
         ensures kept { OnErr result (self.new ≡ self.old) }
     {
-        let domain = copy_of(bundle.trust_domain(), self.alloc)?;
         let shared = Arc::new(self.alloc, bundle)?;
-        self.bundles.insert(domain, shared)?;
-        Ok(())
+        self.add_share(shared)
     }
 
     /// A share of the bundle of a trust domain, which outlives the set.
@@ -63,6 +65,7 @@ impl JwtBundleSet {
     /// A share can be refused; `get_ref` lends the bundle and can't.
     pub fn get(&self, trust_domain: &TrustDomain) -> Result<Option<Arc<JwtBundle>>, JwtBundleError>
         ensures ok { IfOk result (λ o. option_map arc_value o ≡ find_bundle trust_domain.now self.now) }
+        ensures named { IfOk result (λ o. IfSome o (λ b. (arc_value b).trust_domain ≡ trust_domain.now)) }
         ensures err { IfErr result (λ e. e ≡ JwtBundleError.OutOfMemory) }
     {
         match self.get_ref(trust_domain) {
@@ -73,7 +76,8 @@ impl JwtBundleSet {
 
     /// The bundle of a trust domain.
     pub fn get_ref(&self, trust_domain: &TrustDomain) -> Option<&Arc<JwtBundle>>
-        ensures { option_map (λ a. arc_value a.now) result ≡ find_bundle trust_domain.now self.now }
+        ensures found { option_map (λ a. arc_value a.now) result ≡ find_bundle trust_domain.now self.now }
+        ensures named { IfSome result (λ b. (arc_value b.now).trust_domain ≡ trust_domain.now) }
     {
         self.bundles.get(trust_domain)
     }
@@ -82,6 +86,7 @@ impl JwtBundleSet {
     pub fn iter(&self) -> Bundles<'_>
         ensures all { result ≡ self.now }
         ensures ascending { IsAscending self.now }
+        ensures named { AreNamed (λ b. b.trust_domain) self.now }
     {
         Bundles {
             inner: self.bundles.iter(),
@@ -103,7 +108,8 @@ impl JwtBundleSet {
 
     /// The older name of `get_ref`.
     pub fn bundle_for(&self, trust_domain: &TrustDomain) -> Option<&Arc<JwtBundle>>
-        ensures { option_map (λ a. arc_value a.now) result ≡ find_bundle trust_domain.now self.now }
+        ensures found { option_map (λ a. arc_value a.now) result ≡ find_bundle trust_domain.now self.now }
+        ensures named { IfSome result (λ b. (arc_value b.now).trust_domain ≡ trust_domain.now) }
     {
         self.get_ref(trust_domain)
     }
@@ -136,23 +142,20 @@ impl JwtBundleSet {
         ensures err { IfErr result (λ e. e ≡ JwtBundleError.OutOfMemory) }
     {
         let mut copy = JwtBundleSet::new(alloc);
-        for (domain, bundle) in self.iter() {
-            copy.add_share(domain, bundle)?;
+        for (_, bundle) in self.iter() {
+            let share = Arc::try_clone(bundle)?;
+            copy.add_share(share)?;
         }
         Ok(copy)
     }
 
-    fn add_share(
-        &mut self,
-        domain: &TrustDomain,
-        bundle: &Arc<JwtBundle>,
-    ) -> Result<(), JwtBundleError>
-        ensures ok { OnOk result (self.new ≡ with_entry self.old domain.now (arc_value bundle.now)) }
+    fn add_share(&mut self, bundle: Arc<JwtBundle>) -> Result<(), JwtBundleError>
+        ensures ok { OnOk result (self.new ≡ with_bundle self.old (arc_value bundle)) }
         ensures err { IfErr result (λ e. e ≡ JwtBundleError.OutOfMemory) }
+        ensures kept { OnErr result (self.new ≡ self.old) }
     {
-        let domain = copy_of(domain, self.alloc)?;
-        let share = Arc::try_clone(bundle)?;
-        self.bundles.insert(domain, share)?;
+        let domain = copy_of(bundle.trust_domain(), self.alloc)?;
+        self.bundles.insert(domain, bundle)?;
         Ok(())
     }
 }

@@ -1,12 +1,12 @@
-use Rattle.std.proofs.Common.{◌≡◌, ◌∙◌, ℕ, List, String, Global, string_bytes, string_cmp, ap}
+use Rattle.std.proofs.Common.{◌≡◌, ◌∙◌, ℕ, List, String, Global, string_bytes, string_cmp, refl, ap}
 use Rattle.std.specs.declared.sync.Arc.{Arc}
 use Rattle.std.specs.Arc.{arc_value}
 use Rattle.std.specs.BTreeMap.{insert_entry}
 use Rattle.spiffe_core.specs.JwtAuthority.{Authority}
 use Rattle.spiffe_core.specs.KeySet.{with_authority}
 use Rattle.spiffe_core.specs.JwtBundle.{Bundle, stored_authorities}
-use Rattle.spiffe_core.proofs.MapEntries.{found_same, found_other}
-use Rattle.spiffe_core.proofs.StoredEntries.{stored-insert_entry}
+use Rattle.spiffe_core.proofs.MapEntries.{found_same, found_other, named_with}
+use Rattle.spiffe_core.proofs.StoredEntries.{stored-insert_entry, stored_added}
 use Rattle.spiffe_core.proofs.jwt_bundle.JwtBundle.add_jwt_authority.Goals as goal
 
 -- a bundle after an authority went into its stored map
@@ -25,3 +25,10 @@ returns-clause-found c = rw (ap (λ b. b.authorities) (returns-clause-ok c)) (fo
 
 pub returns-clause-others : goal.returns-clause-others
 returns-clause-others c = λ q other. rw (ap (λ b. b.authorities) (returns-clause-ok c)) (found_other q c.args.authority.key_id c.args.authority c.args.self.now.authorities other)
+
+pub invariant_of-self-2 : goal.invariant_of-self-2
+invariant_of-self-2 c =
+    let was = stored_authorities c.self.inside.jwt_authorities.entries in
+    rw (stored_added string_bytes was c.self.inside.jwt_authorities.entries _ c.in_ok-kid.kid c.in_ok-shared.shared c.args.authority.key_id c.args.authority refl
+    c.in_ok-insert.ensures.entries (c.in_ok-kid.ensures.ok ∙ c.key_id.ensures) c.in_ok-shared.ensures.ok)
+    (named_with (λ a. a.key_id) c.args.authority.key_id c.args.authority was refl c.self.invariant)

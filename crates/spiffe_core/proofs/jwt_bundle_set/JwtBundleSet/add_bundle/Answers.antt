@@ -1,15 +1,20 @@
-use Rattle.std.proofs.Common.{◌∙◌}
+use Rattle.std.proofs.Common.{◌≡◌, ◌≢◌, List, ℕ, Result, Ok, Err, Some, OnOk}
+use Rattle.spiffe_core.specs.JwtBundle.{Bundle}
+use Rattle.spiffe_core.specs.JwtBundleSet.{Bundles, with_bundle, find_bundle}
+use Rattle.spiffe_core.specs.declared.error.JwtBundleError.{JwtBundleError}
 use Rattle.spiffe_core.proofs.MapEntries.{found_same, found_other}
-use Rattle.spiffe_core.proofs.StoredEntries.{stored_added}
 use Rattle.spiffe_core.proofs.jwt_bundle_set.JwtBundleSet.add_bundle.Goals as goal
 
-pub returns-clause-ok : goal.returns-clause-ok
-returns-clause-ok c =
-    stored_added (λ domain. domain) c.args.self.now c.self.inside.bundles.entries _ c.in_ok-domain.domain c.in_ok-shared.shared c.args.bundle.trust_domain c.args.bundle c.self.view_is
-    c.in_ok-insert.ensures.entries (c.in_ok-domain.ensures.ok ∙ c.trust_domain.ensures) c.in_ok-shared.ensures.ok
+found : (r : Result (Unit {0}) JwtBundleError) (old new : Bundles) (b : Bundle) → OnOk r (new ≡ with_bundle old b) → OnOk r (find_bundle b.trust_domain new ≡ Some b)
+found (Ok u) old new b is = rw is (found_same b.trust_domain b old)
+found (Err e) old new b is = is
+
+others : (r : Result (Unit {0}) JwtBundleError) (old new : Bundles) (b : Bundle) → OnOk r (new ≡ with_bundle old b) → OnOk r ((q : List ℕ) → q ≢ b.trust_domain → find_bundle q new ≡ find_bundle q old)
+others (Ok u) old new b is = λ q other. rw is (found_other q b.trust_domain b old other)
+others (Err e) old new b is = is
 
 pub returns-clause-found : goal.returns-clause-found
-returns-clause-found c = rw (returns-clause-ok c) (found_same c.args.bundle.trust_domain c.args.bundle c.args.self.now)
+returns-clause-found c = found c.add_share.result c.args.self.now c.add_share.new.self c.args.bundle (rw c.in_ok-shared.ensures.ok at c.add_share.ensures.ok)
 
 pub returns-clause-others : goal.returns-clause-others
-returns-clause-others c = λ q other. rw (returns-clause-ok c) (found_other q c.args.bundle.trust_domain c.args.bundle c.args.self.now other)
+returns-clause-others c = others c.add_share.result c.args.self.now c.add_share.new.self c.args.bundle (rw c.in_ok-shared.ensures.ok at c.add_share.ensures.ok)

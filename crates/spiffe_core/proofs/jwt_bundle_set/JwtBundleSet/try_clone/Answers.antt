@@ -1,10 +1,13 @@
 use Rattle.std.proofs.Common.{◌≡◌, ◌∷◌}
 use Rattle.std.specs.Arc.{arc_value}
-use Rattle.spiffe_core.proofs.Loops.{copied_more}
+use Rattle.spiffe_core.specs.JwtBundleSet.{with_bundle}
+use Rattle.spiffe_core.proofs.Loops.{copied_named}
 use Rattle.spiffe_core.proofs.jwt_bundle_set.JwtBundleSet.try_clone.Goals as goal
 
-pub loop-domain-preserved : goal.loop-domain-preserved
-loop-domain-preserved c =
-    let step : c.loop-domain.domain-iterator ≡ (c.in-Some.domain.now, arc_value c.in-Some.bundle.now) ∷ c.next.new.self = c.in-Some.ensures.steps in
-    copied_more c.args.self.now c.loop-domain.copy c.add_share.new.self c.next.new.self c.in-Some.domain.now (arc_value c.in-Some.bundle.now) c.iter-domain-items.ensures.ascending
-    (rw step at c.loop-domain.invariant) c.in_ok-add_share.ensures.ok
+pub loop-bundle-preserved : goal.loop-bundle-preserved
+loop-bundle-preserved c =
+    let bundle = arc_value c.in-Some.bundle.now in
+    let step : c.loop-bundle.bundle-iterator ≡ (c.in-Some.field-0-0.now, bundle) ∷ c.next.new.self = c.in-Some.ensures.steps in
+    let added : c.add_share.new.self ≡ with_bundle c.loop-bundle.copy bundle = rw c.in_ok-share.ensures at c.in_ok-add_share.ensures.ok in
+    copied_named (λ b. b.trust_domain) c.args.self.now c.loop-bundle.copy c.add_share.new.self c.next.new.self c.in-Some.field-0-0.now bundle c.iter-bundle-items.ensures.ascending
+    c.iter-bundle-items.ensures.named (rw step at c.loop-bundle.invariant) added
