@@ -1,13 +1,13 @@
 -- Where the parts of a private key cannot be read, there is none.
-use Rattle.std.proofs.Common.{◌≡◌, ◌↔◌, ℕ, ◌<◌, ◌^◌, List, [], ◌++◌, length, get_or, Bool, true, false, Option, Some, None, refl, sym, ap, subst, ◌∙◌, inl, inr, arith}
+use Rattle.std.proofs.Common.{◌≡◌, ◌↔◌, ℕ, ◌<◌, ◌^◌, List, ◌++◌, length, Bool, true, false, Option, Some, None, refl, sym, ap, subst, ◌∙◌, inl, inr}
 use Rattle.der_core.specs.Der.{IsTag, IsValue, encode}
 use Rattle.der_core.specs.Decode.{Front, NoFront, ReadsTagged, ReadsTagged-one_value}
-use Rattle.der_core.specs.Tags.{tag_2, tag_129, tag_160}
+use Rattle.der_core.specs.Tags.{tag_129, tag_160}
 use Rattle.der_core.proofs.Values.{encode_append}
-use Rattle.der_core.proofs.Tagged.{same_value}
 use Rattle.der_core.proofs.Sequences.{then_same, then_none, field_same}
 use Rattle.pkcs8.specs.Extensions.{IsExtensions}
-use Rattle.pkcs8.specs.Version.{version_byte, version_of}
+use Rattle.pkcs8.specs.Version.{version_of}
+use Rattle.pkcs8.specs.ReadLaws.{one_version, version_value}
 use Rattle.pkcs8.specs.PrivateKey.{ReadsVersion, AfterAttributes, AfterKey, BeginsWith, PrivateKeyFields}
 use Rattle.pkcs8.specs.declared.version.Version.{Version}
 use Rattle.pkcs8.specs.declared.version.Version.TheVariants.{V1, V2}
@@ -65,23 +65,6 @@ no_public H s (Some k) e none a = none a.front a.rest (ReadsTagged-one_value 129
 pub no_extensions : {B : Type 0} (H : List ℕ → B → Type 0) (s : List ℕ) (k : Option B) → version_of k ≡ V1 → (IsExtensions s → ⊥) → AfterAttributes H k s → ⊥
 no_extensions H s None e none a = none a
 no_extensions H s (Some k) e none a = let no : V2 ≡ V1 = e in cc
-
-same_byte : (v w : Version) → version_byte v ≡ version_byte w → v ≡ w
-same_byte V1 V1 e = refl
-same_byte V1 V2 e = absurd (omega arith)
-same_byte V2 V1 e = absurd (omega arith)
-same_byte V2 V2 e = refl
-
-one_version : (b : List ℕ) (v w : Version) → ReadsVersion b v → ReadsVersion b w → v ≡ w
-one_version b v w r s =
-    let fits : length (encode 2 r.content) < 2 ^ 32 = rw (← r.is) r.fits in
-    let fits' : length (encode 2 s.content) < 2 ^ 32 = rw (← s.is) s.fits in
-    let whole : encode 2 r.content ++ [] ≡ encode 2 s.content ++ [] = ap (λ (x : List ℕ). x ++ []) (sym r.is ∙ s.is) in
-    let same = same_value 2 r.content [] 2 s.content [] tag_2 fits tag_2 fits' whole in
-    same_byte v w (ap (λ (x : List ℕ). get_or x 0 0) (sym r.has ∙ same.contents ∙ s.has))
-
-version_value : (b : List ℕ) (v : Version) → ReadsVersion b v → IsValue b
-version_value b v r = ReadsTagged-one_value 2 _ b v tag_2 r
 
 pub no_version : {A K B : Type 0} (RA : List ℕ → A → Type 0) (RK : List ℕ → K → Type 0) (HB : List ℕ → B → Type 0) (s : List ℕ) → NoFront ReadsVersion s → (a : A) (k : K) (b : Option B) → PrivateKeyFields RA RK HB s a k b → ⊥
 no_version RA RK HB s none a k b c = then_none ReadsVersion _ s (version_of b) none c

@@ -4,3 +4,4 @@ pub mod Fields
 pub mod Keys
 pub mod Owned
 pub mod WrittenKeys
+pub mod WrittenAlike

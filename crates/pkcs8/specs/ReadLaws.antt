@@ -79,13 +79,16 @@ both_then Reads Next Next' s v w law t u =
     let same = then_same Reads Next' s t.rest v w law (record { front = t.front; reads = t.reads; is = t.is }) u in
     record { front = t.front; rest = t.rest; reads = t.reads; reads' = same.reads; next = t.next; next' = same.next }
 
--- Values of one tag are as many as their contents.
-tagged_one : {V : Type 0} (tag : ℕ) (H : List ℕ → V → Type 0) → IsTag tag → ((c : List ℕ) (v w : V) → H c v → H c w → v ≡ w) → (b : List ℕ) (v w : V) → ReadsTagged tag H b v → ReadsTagged tag H b w → v ≡ w
-tagged_one tag H t one b v w r s =
+-- Two readings of one tag are of the same content.
+pub same_contents : {V : Type 0} (tag : ℕ) (H : List ℕ → V → Type 0) → IsTag tag → (b : List ℕ) (v w : V) (r : ReadsTagged tag H b v) (s : ReadsTagged tag H b w) → r.content ≡ s.content
+same_contents tag H t b v w r s =
     let fit : length (encode tag r.content) < 2 ^ 32 = subst (λ (x : List ℕ). length x < 2 ^ 32) r.is r.fits in
     let fit' : length (encode tag s.content) < 2 ^ 32 = subst (λ (x : List ℕ). length x < 2 ^ 32) s.is s.fits in
-    let same = same_value tag r.content [] tag s.content [] t fit t fit' (ap (λ (x : List ℕ). x ++ []) (sym r.is ∙ s.is)) in
-    one s.content v w (subst (λ (x : List ℕ). H x v) same.contents r.has) s.has
+    (same_value tag r.content [] tag s.content [] t fit t fit' (ap (λ (x : List ℕ). x ++ []) (sym r.is ∙ s.is))).contents
+
+-- Values of one tag are as many as their contents.
+tagged_one : {V : Type 0} (tag : ℕ) (H : List ℕ → V → Type 0) → IsTag tag → ((c : List ℕ) (v w : V) → H c v → H c w → v ≡ w) → (b : List ℕ) (v w : V) → ReadsTagged tag H b v → ReadsTagged tag H b w → v ≡ w
+tagged_one tag H t one b v w r s = one s.content v w (subst (λ (x : List ℕ). H x v) (same_contents tag H t b v w r s) r.has) s.has
 
 abbrev IsZero : ℕ → Type 0
 IsZero zero = Unit {0}
@@ -105,10 +108,10 @@ abbrev after_first : List ℕ → List ℕ
 after_first [] = []
 after_first (x ∷ xs) = xs
 
-one_version : (b : List ℕ) (v w : Version) → ReadsVersion b v → ReadsVersion b w → v ≡ w
+pub one_version : (b : List ℕ) (v w : Version) → ReadsVersion b v → ReadsVersion b w → v ≡ w
 one_version = tagged_one 2 _ tag_2 (λ c v w h k. same_byte v w (ap first (sym h ∙ k)))
 
-version_value : (b : List ℕ) (v : Version) → ReadsVersion b v → IsValue b
+pub version_value : (b : List ℕ) (v : Version) → ReadsVersion b v → IsValue b
 version_value b v r = ReadsTagged-one_value 2 _ b v tag_2 r
 
 attributes_begin : (content rest : List ℕ) → BeginsWith 160 (encode 160 content ++ rest)
@@ -151,7 +154,7 @@ pub record SameFields {A K B : Type 0} (a a' : A) (k k' : K) (b b' : B) : Type 0
   pub key : k ≡ k'
   pub public : b ≡ b'
 
-one_fields : {A K B : Type 0} (RA : List ℕ → A → Type 0) (RK : List ℕ → K → Type 0) (HB : List ℕ → B → Type 0) → ReadsOne RA → ReadsOne RK → ((c : List ℕ) (v w : B) → HB c v → HB c w → v ≡ w) → (s : List ℕ) (a a' : A) (k k' : K) (b b' : Option B) → PrivateKeyFields RA RK HB s a k b → PrivateKeyFields RA RK HB s a' k' b' → SameFields a a' k k' b b'
+pub one_fields : {A K B : Type 0} (RA : List ℕ → A → Type 0) (RK : List ℕ → K → Type 0) (HB : List ℕ → B → Type 0) → ReadsOne RA → ReadsOne RK → ((c : List ℕ) (v w : B) → HB c v → HB c w → v ≡ w) → (s : List ℕ) (a a' : A) (k k' : K) (b b' : Option B) → PrivateKeyFields RA RK HB s a k b → PrivateKeyFields RA RK HB s a' k' b' → SameFields a a' k k' b b'
 one_fields RA RK HB lawA lawK oneB s a a' k k' b b' r r' =
     let versions = both_then ReadsVersion _ _ s (version_of b) (version_of b') version_value r r' in
     let algorithms = both_then RA _ _ versions.rest a a' lawA.value versions.next versions.next' in

@@ -25,6 +25,16 @@ pub fn written_keys_are_read<
     ensures { ((k : PubKey) → PubKey.bits k ≡ PubKey.content k) → (v : KeyOf Params Key PubKey) → length (private_key_encoding Params.encoding Key.tag Key.content PubKey.bits v) < 2 ^ 32 → ⟦<PrivateKeyInfo<Params, Key, PubKey> as Decode<'a>>⟧.Reads (private_key_encoding Params.encoding Key.tag Key.content PubKey.bits v) v }
 {}
 
+/// Private keys that are read from the same bytes are written alike, of whatever lawful types their parts are. So what is read of what was written of a key is that key.
+pub fn read_keys_are_written_alike<
+    'a,
+    Params: Choice<'a>,
+    Key: LawfulValue<'a> + FixedTag,
+    PubKey: LawfulValue<'a> + BitStringLike,
+>()
+    ensures { ((k : PubKey) → PubKey.bits k ≡ PubKey.content k) → (bytes : List ℕ) (v w : KeyOf Params Key PubKey) → ⟦<PrivateKeyInfo<Params, Key, PubKey> as Decode<'a>>⟧.Reads bytes v → ⟦<PrivateKeyInfo<Params, Key, PubKey> as Decode<'a>>⟧.Reads bytes w → private_key_encoding Params.encoding Key.tag Key.content PubKey.bits v ≡ private_key_encoding Params.encoding Key.tag Key.content PubKey.bits w }
+{}
+
 /// A private key that was read, written and read again is the same key, and no other is read.
 pub fn read_keys_are_read_again()
     ensures written { (bytes : List ℕ) (key : PlainPrivateKey) → ReadsPrivateKey bytes key → length (private_key_der key) < 2 ^ 32 → ReadsPrivateKey (private_key_der key) key }

@@ -15,7 +15,7 @@ mod version;
 pub use error::{Error, KeyError, Result};
 pub use laws::{
     equal_keys_are_equal_in_each_part, equal_keys_have_equal_parts, read_keys_are_read_again,
-    shown_keys_hide_private_octets, written_keys_are_read,
+    read_keys_are_written_alike, shown_keys_hide_private_octets, written_keys_are_read,
 };
 pub use private_key_info::{PrivateKeyInfo, PrivateKeyInfoOwned, PrivateKeyInfoRef};
 pub use traits::{BitStringLike, DecodePrivateKey, EncodePrivateKey};

@@ -15,7 +15,7 @@ ghost use Rattle.spki.specs.PublicKey.{public_key_encoding};
 ghost use Rattle.spki.specs.declared.spki.SubjectPublicKeyInfo.{SubjectPublicKeyInfo as KeyOf};
 
 use crate::{SubjectPublicKeyInfo, SubjectPublicKeyInfoOwned, SubjectPublicKeyInfoRef};
-use der_small::{Choice, Decode, Lawful};
+use der_small::{Choice, Decode, Encode, Lawful};
 
 /// Writing a public key that was read gives the same bytes.
 pub fn read_keys_are_written_again<'a, Params: Choice<'a>, Key: Lawful<'a>>()
@@ -31,4 +31,9 @@ pub fn parameters_oid_is_second_of_oids()
 pub fn equal_keys_have_one_fingerprint()
     ensures borrowed { (a b : KeyOf AnyRefValue BitsRefValue) → ⟦<SubjectPublicKeyInfoRef<'static> as PartialEq>⟧.eq a b ≡ true → sha256 (public_key_der (plain_public_key_ref a)) ≡ sha256 (public_key_der (plain_public_key_ref b)) }
     ensures owned { (a b : KeyOf AnyValue BitsValue) → ⟦<SubjectPublicKeyInfoOwned as PartialEq>⟧.eq a b ≡ true → sha256 (public_key_der (plain_public_key a)) ≡ sha256 (public_key_der (plain_public_key b)) }
+{}
+
+/// Equal public keys have one fingerprint, of whatever types their parts are whose equal values are written alike.
+pub fn equal_parts_have_one_fingerprint<Params: Encode + PartialEq, Key: Encode + PartialEq>()
+    ensures { ((p q : Params) → Params.eq p q ≡ true → Params.encoding p ≡ Params.encoding q) → ((p q : Key) → Key.eq p q ≡ true → Key.encoding p ≡ Key.encoding q) → (a b : KeyOf Params Key) → ⟦<SubjectPublicKeyInfo<Params, Key> as PartialEq>⟧.eq a b ≡ true → sha256 (public_key_encoding Params.encoding Key.encoding a) ≡ sha256 (public_key_encoding Params.encoding Key.encoding b) }
 {}

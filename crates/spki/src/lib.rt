@@ -16,7 +16,8 @@ pub use algorithm::{
 pub use digest::{DigestWriter, FingerprintBytes};
 pub use error::{Error, Result};
 pub use laws::{
-    equal_keys_have_one_fingerprint, parameters_oid_is_second_of_oids, read_keys_are_written_again,
+    equal_keys_have_one_fingerprint, equal_parts_have_one_fingerprint,
+    parameters_oid_is_second_of_oids, read_keys_are_written_again,
 };
 pub use spki::{SubjectPublicKeyInfo, SubjectPublicKeyInfoOwned, SubjectPublicKeyInfoRef};
 pub use traits::{

@@ -239,3 +239,39 @@ fn laws(_rt: HostRuntime) {
     no_value_begins_another();
     no_encoding_begins_another::<OctetStringRef>();
 }
+
+// As Rust derives it: the name of the type, and its fields in order.
+#[test]
+fn debug_forms(rt: HostRuntime) -> Result<(), Fail> {
+    let any = AnyRef::from_der(&[4, 1, 9])?;
+    let bits = BitStringRef::new(4, &[0xf0])?;
+    let octets = OctetStringRef::new(&[9])?;
+    let text = Utf8Ref::new("a")?;
+    let length = Length::new(7);
+    let rows = [
+        (
+            format!(in rt.alloc(); "{any:?}")?,
+            "AnyRef { tag: Tag { byte: 4 }, value: [9] }",
+        ),
+        (
+            format!(in rt.alloc(); "{bits:?}")?,
+            "BitStringRef { unused_bits: 4, raw: [240] }",
+        ),
+        (
+            format!(in rt.alloc(); "{octets:?}")?,
+            "OctetStringRef { bytes: [9] }",
+        ),
+        (
+            format!(in rt.alloc(); "{text:?}")?,
+            "Utf8Ref { text: \"a\" }",
+        ),
+        (
+            format!(in rt.alloc(); "{length:?}")?,
+            "Length { number: 7 }",
+        ),
+    ];
+    for (shown, wanted) in &rows {
+        assert_eq!(rt; shown.as_str(), *wanted);
+    }
+    Ok(())
+}

@@ -1,7 +1,8 @@
 use crate::{
     BitStringLike, DecodePrivateKey, EncodePrivateKey, PrivateKeyInfo, PrivateKeyInfoOwned,
     PrivateKeyInfoRef, Version, equal_keys_are_equal_in_each_part, equal_keys_have_equal_parts,
-    read_keys_are_read_again, shown_keys_hide_private_octets, written_keys_are_read,
+    read_keys_are_read_again, read_keys_are_written_alike, shown_keys_hide_private_octets,
+    written_keys_are_read,
 };
 use der_small::{AnyRef, BitStringRef, Decode, Encode, ObjectIdentifier, OctetStringRef};
 use std::test::Fail;
@@ -175,6 +176,7 @@ fn bit_strings_of_public_keys(rt: HostRuntime) -> Result<(), Fail> {
 #[test]
 fn laws(_rt: HostRuntime) {
     written_keys_are_read::<AnyRef, OctetStringRef, BitStringRef>();
+    read_keys_are_written_alike::<AnyRef, OctetStringRef, BitStringRef>();
     read_keys_are_read_again();
     equal_keys_have_equal_parts();
     equal_keys_are_equal_in_each_part::<AnyRef, OctetStringRef, BitStringRef>();

@@ -1,7 +1,8 @@
 use crate::{
     AlgorithmIdentifierRef, DecodePublicKey, DigestWriter, EncodePublicKey, Error,
     SubjectPublicKeyInfo, SubjectPublicKeyInfoOwned, SubjectPublicKeyInfoRef,
-    equal_keys_have_one_fingerprint, parameters_oid_is_second_of_oids, read_keys_are_written_again,
+    equal_keys_have_one_fingerprint, equal_parts_have_one_fingerprint,
+    parameters_oid_is_second_of_oids, read_keys_are_written_again,
 };
 use base64ct::{Base64, Encoding};
 use der_small::{
@@ -123,6 +124,7 @@ fn hashes_and_the_writer_of_a_digest(rt: HostRuntime) -> Result<(), Fail> {
     read_keys_are_written_again::<AnyRef, BitStringRef>();
     parameters_oid_is_second_of_oids();
     equal_keys_have_one_fingerprint();
+    equal_parts_have_one_fingerprint::<AnyRef, BitStringRef>();
     Ok(())
 }
 

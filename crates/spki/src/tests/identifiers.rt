@@ -89,6 +89,23 @@ fn forms_and_orders_of_identifiers(rt: HostRuntime) -> Result<(), Fail> {
     Ok(())
 }
 
+// As Rust derives it: the name of the type, and its fields in order.
+#[test]
+fn debug_forms(rt: HostRuntime) -> Result<(), Fail> {
+    let null = AlgorithmIdentifierRef::from_der(&WITH_NULL)?;
+    let parameters = null.parameters;
+    assert_eq!(rt;
+        format!(in rt.alloc(); "{parameters:?}")?.as_str(),
+        "Some(AnyRef { tag: Tag { byte: 5 }, value: [] })"
+    );
+    let shown = format!(in rt.alloc(); "{null:?}")?;
+    assert!(rt; shown.as_str().starts_with("AlgorithmIdentifier { oid: "));
+    assert!(rt;
+        shown.as_str().ends_with(", parameters: Some(AnyRef { tag: Tag { byte: 5 }, value: [] }) }")
+    );
+    Ok(())
+}
+
 ghost use Rattle.std.specs.Prelude.{◌≡◌, [], ◌∷◌, Some, Ok, IsSome, IfSome};
 ghost use Rattle.der_core.specs.Der.{encode};
 ghost use Rattle.der_core.specs.Oid.{IsOidContent};
