@@ -4,12 +4,14 @@
 ghost use Rattle.std.specs.Prelude.{◌≡◌, ◌<◌};
 
 use crate::{Base64Bcrypt, Base64Crypt, Base64Pbkdf2, Base64Url, Base64UrlUnpadded};
-use base64_alphabet::{Alphabet, Base64, Base64ShaCrypt, Base64Unpadded, Steps};
+use base64_alphabet::{
+    Alphabet, Base64, Base64ShaCrypt, Base64Unpadded, DecodeStep, EncodeStep, Steps,
+};
+use std::alloc::Global;
 use std::hash::Hash;
 use std::marker::Brand;
 use std::process::Abort;
 use std::sync::ledger::{Blank, Ledger};
-use std::test::Fail;
 
 // RFC 4648 section 4, table 1, and section 5, table 2.
 const STANDARD: &'static [u8; 64] =
@@ -27,16 +29,54 @@ const CRYPT: &'static [u8; 64] =
 const PBKDF2: &'static [u8; 64] =
     b"ABCDEFGHIJKLMNOPQRSTUVWXYZabcdefghijklmnopqrstuvwxyz0123456789./";
 
-// Every place and every byte.
+// The sum of the passes over `DECODER`, by their arithmetic: each difference is -1 in its high bits exactly
+// within the range.
+fn decoded(steps: &[DecodeStep], byte: u8) -> i16 {
+    let c = byte as i16;
+    let mut sum = -1i16;
+    for step in steps {
+        let (first, last, added) = match step {
+            DecodeStep::Range(first, last, offset) => {
+                (*first as i16, *last as i16, c.wrapping_add(*offset))
+            }
+            DecodeStep::Eq(value, offset) => (*value as i16, *value as i16, *offset),
+        };
+        let within = first.wrapping_sub(1).wrapping_sub(c) & c.wrapping_sub(last.wrapping_add(1));
+        sum = sum.wrapping_add((within >> 8) & added);
+    }
+    sum
+}
+
+// The sum of the passes over `ENCODER`.
+fn encoded(base: u8, steps: &[EncodeStep], place: i16) -> i16 {
+    let mut sum = place.wrapping_add(base as i16);
+    for step in steps {
+        sum = sum.wrapping_add(match step {
+            EncodeStep::Apply(bound, offset) => ((*bound as i16).wrapping_sub(sum) >> 8) & *offset,
+            EncodeStep::Diff(bound, offset) => ((*bound as i16).wrapping_sub(place) >> 8) & *offset,
+        });
+    }
+    sum
+}
+
+// Every place and every byte, by the calls and by the passes over the constants.
 fn agrees<E: Alphabet>(rt: &impl Abort, table: &[u8; 64]) {
     let mut places = [-1i16; 256];
-    for place in 0..64 {
-        let character = table[place];
-        places[character as usize] = place as i16;
-        assert_eq!(rt; E::encode_6bits(place as i16), character, "at {place}");
+    for (place, character) in table.iter().enumerate() {
+        let place = place as i16;
+        places[*character as usize] = place;
+        assert_eq!(rt;
+            encoded(E::BASE, E::ENCODER, place),
+            *character as i16,
+            "at {place}"
+        );
+        if 0 <= place && place < 64 {
+            assert_eq!(rt; E::encode_6bits(place), *character, "at {place}");
+        }
     }
-    for byte in 0..256 {
-        assert_eq!(rt; E::decode_6bits(byte as u8), places[byte], "at {byte}");
+    for (byte, place) in places.iter().enumerate() {
+        assert_eq!(rt; E::decode_6bits(byte as u8), *place, "at {byte}");
+        assert_eq!(rt; decoded(E::DECODER, byte as u8), *place, "at {byte}");
     }
 }
 
@@ -99,45 +139,24 @@ fn convert_a_group(rt: HostRuntime) {
     converts::<Base64Pbkdf2>(&rt, b"Zm9v");
 }
 
-// What an alphabet offers to generic code, threads included.
-fn default_of<E: Alphabet + Default + Ord + Hash + Send + Sync>() -> E {
-    E::default()
+// The name that an alphabet's value shows, by what it offers to generic code, threads included.
+fn is_named<E: Alphabet + Default + Ord + Hash + Send + Sync>(
+    rt: &impl Abort,
+    alloc: Global,
+    name: &str,
+) -> bool {
+    let shown = format!(in alloc; "{:?}", E::default()).expect(rt, "memory");
+    shown.as_str() == name
 }
 
 #[test]
-fn have_their_traits(rt: HostRuntime) -> Result<(), Fail> {
-    let alloc = rt.alloc();
-    assert_eq!(rt;
-        format!(in alloc; "{:?}", default_of::<Base64>())?.as_str(),
-        "Base64"
-    );
-    assert_eq!(rt;
-        format!(in alloc; "{:?}", default_of::<Base64Unpadded>())?.as_str(),
-        "Base64Unpadded"
-    );
-    assert_eq!(rt;
-        format!(in alloc; "{:?}", default_of::<Base64Url>())?.as_str(),
-        "Base64Url"
-    );
-    assert_eq!(rt;
-        format!(in alloc; "{:?}", default_of::<Base64UrlUnpadded>())?.as_str(),
-        "Base64UrlUnpadded"
-    );
-    assert_eq!(rt;
-        format!(in alloc; "{:?}", default_of::<Base64Bcrypt>())?.as_str(),
-        "Base64Bcrypt"
-    );
-    assert_eq!(rt;
-        format!(in alloc; "{:?}", default_of::<Base64Crypt>())?.as_str(),
-        "Base64Crypt"
-    );
-    assert_eq!(rt;
-        format!(in alloc; "{:?}", default_of::<Base64ShaCrypt>())?.as_str(),
-        "Base64ShaCrypt"
-    );
-    assert_eq!(rt;
-        format!(in alloc; "{:?}", default_of::<Base64Pbkdf2>())?.as_str(),
-        "Base64Pbkdf2"
-    );
-    Ok(())
+fn have_their_traits(rt: HostRuntime) {
+    assert!(rt; is_named::<Base64>(&rt, rt.alloc(), "Base64"));
+    assert!(rt; is_named::<Base64Unpadded>(&rt, rt.alloc(), "Base64Unpadded"));
+    assert!(rt; is_named::<Base64Url>(&rt, rt.alloc(), "Base64Url"));
+    assert!(rt; is_named::<Base64UrlUnpadded>(&rt, rt.alloc(), "Base64UrlUnpadded"));
+    assert!(rt; is_named::<Base64Bcrypt>(&rt, rt.alloc(), "Base64Bcrypt"));
+    assert!(rt; is_named::<Base64Crypt>(&rt, rt.alloc(), "Base64Crypt"));
+    assert!(rt; is_named::<Base64ShaCrypt>(&rt, rt.alloc(), "Base64ShaCrypt"));
+    assert!(rt; is_named::<Base64Pbkdf2>(&rt, rt.alloc(), "Base64Pbkdf2"));
 }

@@ -1,9 +1,9 @@
 //! A source and a sink in memory that don't fail on demand.
-ghost use Rattle.std.specs.Prelude.{ℕ, ◌≡◌, ◌≤◌, ◌<◌, ◌-◌, ◌↔◌, List, [], Some, IfOk, IsErr, IsOk, length, min, take};
+ghost use Rattle.std.specs.Prelude.{ℕ, ◌≡◌, ◌≤◌, ◌<◌, ◌-◌, ◌↔◌, List, [], Some, IfOk, IsErr, IsOk, is_ok, if◌then◌else◌, length, min, take};
 ghost use Rattle.std.specs.Io.{ReadsAtMost, WritesAtMost};
 ghost use Rattle.std.specs.Io.KnownBytes.{ReadConsumes, WriteAppends};
 ghost use Rattle.identity_io.specs.Causes.{HasCause};
-ghost use Rattle.identity_io.specs.Memory.{SureStore};
+ghost use Rattle.identity_io.specs.Memory.{SureStore, one_more};
 
 use crate::{Failed, Sink, Source};
 use std::marker::Model;
@@ -96,6 +96,7 @@ impl Sink for SureSink<'_> {
         ensures count { IfOk result (λ n. n ≡ min (length bytes.now) (self.old.room - length self.old.written)) }
         ensures cause { HasCause self.old.faults self.new.faults result }
         ensures fails { IsErr result ↔ ((0 < length bytes.now) × (length self.old.written ≡ self.old.room)) }
+        ensures faults { self.new.faults ≡ (if is_ok result then self.old.faults else one_more self.old.faults) }
         ensures full_before { 0 < self.old.faults → length self.old.written ≡ self.old.room }
         ensures full_after { 0 < self.new.faults → length self.new.written ≡ self.new.room }
         ensures room { self.new.room ≡ self.old.room }

@@ -1,5 +1,5 @@
 //! JWT bundles.
-ghost use Rattle.std.specs.Prelude.{◌≡◌, ◌≢◌, ◌≤◌, ℕ, List, [], map, Some, Ok, IfOk, IfErr, IfSome, OnOk, OnErr, false, option_map};
+ghost use Rattle.std.specs.Prelude.{◌≡◌, ◌≢◌, ◌≤◌, ℕ, List, [], length, map, Some, Ok, IfOk, IfErr, IfSome, OnOk, OnErr, false, option_map};
 ghost use Rattle.std.specs.Arc.{arc_value};
 ghost use Rattle.std.specs.Cmp.{partial_equiv_from_equiv};
 ghost use Rattle.std.specs.Map.{values_of};
@@ -129,6 +129,13 @@ impl JwtBundle {
         JwtAuthorities {
             inner: self.jwt_authorities.values(),
         }
+    }
+
+    /// The number of authorities.
+    pub fn authority_count(&self) -> usize
+        ensures { result ≡ length self.now.authorities }
+    {
+        self.jwt_authorities.len()
     }
 
     /// A copy whose authorities are shared with this bundle.

@@ -1,4 +1,4 @@
-// Expected values are the worked rows of the specification. In the tables a row is an input, ` = ` and the
+// Expected values are made by hand from the rules of a key set in their order. In the tables a row is an input, ` = ` and the
 // answer: the compact JSON of the value, or the name of the first broken rule.
 ghost use Rattle.std.specs.Prelude.{IfOk, is_some, ◌≡◌, ◌<◌};
 
@@ -10,7 +10,7 @@ use crate::jwt_bundle_set::JwtBundleSet;
 use spiffe_id::TrustDomain;
 use spiffe_json::JsonError;
 use std::alloc::Global;
-use std::test::Fail;
+use std::process::Abort;
 
 const KEYS: &str = "{\"kty\":\"oct\",\"kid\":\"a\"} = {\"kid\":\"a\",\"kty\":\"oct\"}
 { \"z\" : -3, \"kid\" : \"k\", \"z\" : [ 1, {} ] } = {\"kid\":\"k\",\"z\":[1,{}]}
@@ -27,8 +27,8 @@ const KEYS: &str = "{\"kty\":\"oct\",\"kid\":\"a\"} = {\"kid\":\"a\",\"kty\":\"o
 {\"kid\":\"a\",\"n\":-0} = Deserialize(Number)
 {\"n\":1.0} = Deserialize(Number)";
 
-const SETS: &str =
-    "{\"keys\":[{\"kid\":\"b\"},{\"kid\":\"a\"}],\"x\":[]} = {\"kid\":\"a\"}{\"kid\":\"b\"}
+const SETS: &str = "{\"keys\": []} = 
+{\"keys\":[{\"kid\":\"b\"},{\"kid\":\"a\"}],\"x\":[]} = {\"kid\":\"a\"}{\"kid\":\"b\"}
 {\"keys\":[{\"kid\":\"a\",\"n\":1},{\"kid\":\"a\",\"n\":2}]} = {\"kid\":\"a\",\"n\":2}
 {\"keys\":[{\"kid\":\"a\",\"n\":1.5}]} = Deserialize(Number)
 {\"keys\":[{\"kid\":\"a\",\"n\":-0}]} = Deserialize(Number)
@@ -41,45 +41,50 @@ const SETS: &str =
 {\"k\":[7.5]} = Deserialize(Number)
 { = Deserialize(Syntax)";
 
-fn key_or_rule(alloc: Global, json: &str) -> Result<String, Fail> {
+fn key_or_rule(rt: &impl Abort, alloc: Global, json: &str) -> String {
     match JwtAuthority::from_jwk_json(alloc, json.as_bytes()) {
-        Ok(key) => Ok(String::from_utf8_lossy(alloc, key.jwk_json())?),
-        Err(rule) => Ok(format!(in alloc; "{rule:?}")?),
+        Ok(key) => String::from_utf8_lossy(alloc, key.jwk_json()),
+        Err(rule) => format!(in alloc; "{rule:?}"),
     }
+    .expect(rt, "memory")
 }
 
 // The JSON of all authorities, one after another.
-fn bundle_text(alloc: Global, bundle: &JwtBundle) -> Result<String, Fail> {
+fn bundle_text(rt: &impl Abort, alloc: Global, bundle: &JwtBundle) -> String {
     let mut text = String::new(alloc);
     for authority in bundle.jwt_authorities() {
-        let json = String::from_utf8_lossy(alloc, authority.jwk_json())?;
-        text.push_str(json.as_str())?;
+        let json = String::from_utf8_lossy(alloc, authority.jwk_json()).expect(rt, "memory");
+        text.push_str(json.as_str()).expect(rt, "memory");
     }
-    Ok(text)
+    text
 }
 
-fn keys_or_rule(alloc: Global, jwks: &str) -> Result<String, Fail> {
-    let domain = TrustDomain::new(alloc, "domain.test")?;
+fn domain(rt: &impl Abort, alloc: Global, name: &str) -> TrustDomain {
+    TrustDomain::new(alloc, name).expect(rt, "a trust domain")
+}
+
+fn keys_or_rule(rt: &impl Abort, alloc: Global, jwks: &str) -> String {
+    let domain = domain(rt, alloc, "domain.test");
     match JwtBundle::from_jwt_authorities(alloc, domain, jwks.as_bytes()) {
-        Ok(bundle) => bundle_text(alloc, &bundle),
-        Err(rule) => Ok(format!(in alloc; "{rule:?}")?),
+        Ok(bundle) => bundle_text(rt, alloc, &bundle),
+        Err(rule) => format!(in alloc; "{rule:?}").expect(rt, "memory"),
     }
 }
 
 // Each trust domain with the JSON of its authorities.
-fn set_text(alloc: Global, set: &JwtBundleSet) -> Result<String, Fail> {
+fn set_text(rt: &impl Abort, alloc: Global, set: &JwtBundleSet) -> String {
     let mut text = String::new(alloc);
     for (domain, bundle) in set.iter() {
-        text.push_str(domain.as_str())?;
-        let authorities = bundle_text(alloc, bundle)?;
-        text.push_str(authorities.as_str())?;
+        text.push_str(domain.as_str()).expect(rt, "memory");
+        let authorities = bundle_text(rt, alloc, bundle);
+        text.push_str(authorities.as_str()).expect(rt, "memory");
     }
-    Ok(text)
+    text
 }
 
-fn bundle_of(alloc: Global, domain: &str, jwks: &str) -> Result<JwtBundle, Fail> {
-    let domain = TrustDomain::new(alloc, domain)?;
-    Ok(JwtBundle::from_jwt_authorities(alloc, domain, jwks.as_bytes())?)
+fn bundle_of(rt: &impl Abort, alloc: Global, name: &str, jwks: &str) -> JwtBundle {
+    let domain = domain(rt, alloc, name);
+    JwtBundle::from_jwt_authorities(alloc, domain, jwks.as_bytes()).expect(rt, "a key set")
 }
 
 // Whether a source, of which only its contract is known, has a bundle for the trust domain.
@@ -95,151 +100,200 @@ where
 }
 
 // A hundred trust domains, added in the order that the step gives.
-fn hundred(alloc: Global, step: u32) -> Result<JwtBundleSet, Fail>
+fn hundred(rt: &impl Abort, alloc: Global, step: u32) -> JwtBundleSet
     requires { step < 100 }
 {
     let mut set = JwtBundleSet::new(alloc);
     for i in 0u32..100 {
-        let name = format!(in alloc; "d{}.test", 100 + i * step % 100)?;
-        let domain = TrustDomain::new(alloc, name.as_str())?;
-        set.add_bundle(JwtBundle::new(alloc, domain))?;
+        let name = format!(in alloc; "d{}.test", 100 + i * step % 100).expect(rt, "memory");
+        let domain = domain(rt, alloc, name.as_str());
+        set.add_bundle(JwtBundle::new(alloc, domain))
+            .expect(rt, "memory");
     }
-    Ok(set)
+    set
 }
 
 #[test]
-fn keys(rt: HostRuntime) -> Result<(), Fail> {
-    let alloc = rt.alloc();
+fn keys(rt: HostRuntime) {
     for row in KEYS.lines() {
-        let (json, wanted) = row.split_once(" = ").ok_or("no answer")?;
-        assert_eq!(rt; key_or_rule(alloc, json)?.as_str(), wanted, "{row}");
+        let (json, wanted) = row.split_once(" = ").expect(&rt, "an answer");
+        assert_eq!(rt;
+            key_or_rule(&rt, rt.alloc(), json).as_str(),
+            wanted,
+            "{row}"
+        );
     }
-    Ok(())
 }
 
 #[test]
-fn key_sets(rt: HostRuntime) -> Result<(), Fail> {
-    let alloc = rt.alloc();
+fn key_sets(rt: HostRuntime) {
     for row in SETS.lines() {
-        let (jwks, wanted) = row.split_once(" = ").ok_or("no answer")?;
-        assert_eq!(rt; keys_or_rule(alloc, jwks)?.as_str(), wanted, "{row}");
+        let (jwks, wanted) = row.split_once(" = ").expect(&rt, "an answer");
+        assert_eq!(rt;
+            keys_or_rule(&rt, rt.alloc(), jwks).as_str(),
+            wanted,
+            "{row}"
+        );
     }
-    assert_eq!(rt; keys_or_rule(alloc, "{\"keys\": []}")?.as_str(), "");
-    Ok(())
 }
 
 const KEY: &[u8] = b"{\"kty\":\"oct\",\"kid\":\"a\"}";
 
-fn with_one_key(alloc: Global) -> Result<JwtBundle, Fail> {
-    let mut bundle = JwtBundle::new(alloc, TrustDomain::new(alloc, "domain.test")?);
-    bundle.add_jwt_authority(JwtAuthority::from_jwk_json(alloc, KEY)?)?;
-    bundle.add_jwk_authority_json(KEY)?;
-    Ok(bundle)
+fn with_one_key(rt: &impl Abort, alloc: Global) -> JwtBundle {
+    let mut bundle = JwtBundle::new(alloc, domain(rt, alloc, "domain.test"));
+    let authority = JwtAuthority::from_jwk_json(alloc, KEY).expect(rt, "a key");
+    bundle.add_jwt_authority(authority).expect(rt, "memory");
+    bundle.add_jwk_authority_json(KEY).expect(rt, "a key");
+    bundle
 }
 
 #[test]
-fn bundles(rt: HostRuntime) -> Result<(), Fail> {
+fn bundles(rt: HostRuntime) {
     let alloc = rt.alloc();
-    let bundle = with_one_key(alloc)?;
-    let text = bundle_text(alloc, &bundle)?;
+    let bundle = with_one_key(&rt, alloc);
+    let text = bundle_text(&rt, alloc, &bundle);
     assert_eq!(rt; text.as_str(), "{\"kid\":\"a\",\"kty\":\"oct\"}");
     assert_eq!(rt; bundle.trust_domain().as_str(), "domain.test");
     assert!(rt; bundle.find_jwt_authority("b").is_none());
-    let found = bundle.find_jwt_authority("a").ok_or("no authority")?;
+    let found = bundle.find_jwt_authority("a").expect(&rt, "an authority");
     assert_eq!(rt; found.key_id(), "a");
-    assert!(rt; found.try_clone(alloc)? == **found);
-    assert!(rt; bundle.try_clone(alloc)? == bundle);
-    Ok(())
+    assert!(rt; found.try_clone(alloc).is_ok_and(|copy| copy == **found));
+    assert!(rt; bundle.try_clone(alloc).is_ok_and(|copy| copy == bundle));
 }
 
-fn replaced(alloc: Global) -> Result<JwtBundleSet, Fail> {
+fn replaced(rt: &impl Abort, alloc: Global) -> JwtBundleSet {
     let mut set = JwtBundleSet::new(alloc);
-    set.add_bundle(bundle_of(alloc, "replace.test", "{\"keys\":[{\"kid\":\"kid-old\"}]}")?)?;
-    set.add_bundle(bundle_of(alloc, "replace.test", "{\"keys\":[{\"kid\":\"kid-new\"}]}")?)?;
-    Ok(set)
+    for keys in [
+        "{\"keys\":[{\"kid\":\"kid-old\"}]}",
+        "{\"keys\":[{\"kid\":\"kid-new\"}]}",
+    ] {
+        let bundle = bundle_of(rt, alloc, "replace.test", keys);
+        set.add_bundle(bundle).expect(rt, "memory");
+    }
+    set
 }
 
-fn pair(alloc: Global) -> Result<Vec<JwtBundle>, Fail> {
+fn pair(rt: &impl Abort, alloc: Global) -> Vec<JwtBundle> {
     let mut bundles = Vec::new(alloc);
-    bundles.push(bundle_of(alloc, "b.test", "{\"keys\":[]}")?)?;
-    bundles.push(bundle_of(alloc, "a.test", "{\"keys\":[{\"kid\":\"k\"}]}")?)?;
-    Ok(bundles)
+    for (name, keys) in [
+        ("b.test", "{\"keys\":[]}"),
+        ("a.test", "{\"keys\":[{\"kid\":\"k\"}]}"),
+    ] {
+        bundles
+            .push(bundle_of(rt, alloc, name, keys))
+            .expect(rt, "memory");
+    }
+    bundles
 }
 
 #[test]
-fn sets(rt: HostRuntime) -> Result<(), Fail> {
+fn sets(rt: HostRuntime) {
     let alloc = rt.alloc();
     assert!(rt; JwtBundleSet::new(alloc).is_empty());
-    let mut set = replaced(alloc)?;
+    let mut set = replaced(&rt, alloc);
     assert_eq!(rt; set.len(), 1);
-    let text = set_text(alloc, &set)?;
+    let text = set_text(&rt, alloc, &set);
     assert_eq!(rt; text.as_str(), "replace.test{\"kid\":\"kid-new\"}");
-    set.try_extend(pair(alloc)?)?;
+    set.try_extend(pair(&rt, alloc)).expect(&rt, "memory");
     assert_eq!(rt; set.len(), 3);
-    assert!(rt; set.try_clone(alloc)? == set);
-    let text = set_text(alloc, &set)?;
+    let text = set_text(&rt, alloc, &set);
     let shown = "a.test{\"kid\":\"k\"}b.testreplace.test{\"kid\":\"kid-new\"}";
     assert_eq!(rt; text.as_str(), shown);
-    Ok(())
 }
 
 #[test]
-fn looking_up(rt: HostRuntime) -> Result<(), Fail> {
+fn looking_up(rt: HostRuntime) {
     let alloc = rt.alloc();
-    let set = JwtBundleSet::try_from_bundles(alloc, pair(alloc)?)?;
+    let set = JwtBundleSet::try_from_bundles(alloc, pair(&rt, alloc)).expect(&rt, "memory");
     assert_eq!(rt; set.len(), 2);
-    assert!(rt; set.try_clone(alloc)? == set);
-    let a = TrustDomain::new(alloc, "A.test")?;
-    let c = TrustDomain::new(alloc, "c.test")?;
-    assert!(rt; set.get(&a)?.is_some());
-    assert!(rt; set.get(&c)?.is_none());
-    assert!(rt; set.get_ref(&a).is_some());
-    assert!(rt; set.bundle_for(&c).is_none());
-    assert!(rt; has_bundle(&set, &a));
-    assert!(rt; !has_bundle(&set, &c));
-    Ok(())
+    assert!(rt; set.try_clone(alloc).is_ok_and(|copy| copy == set));
+    for (name, is_there) in [("A.test", true), ("c.test", false)] {
+        let domain = domain(&rt, alloc, name);
+        let shared = set.get(&domain).expect(&rt, "a share");
+        assert_eq!(rt; shared.is_some(), is_there);
+        assert_eq!(rt; set.get_ref(&domain).is_some(), is_there);
+        assert_eq!(rt; set.bundle_for(&domain).is_some(), is_there);
+        assert_eq!(rt; has_bundle(&set, &domain), is_there);
+    }
 }
 
 #[test]
-fn order(rt: HostRuntime) -> Result<(), Fail> {
+fn order(rt: HostRuntime) {
     let alloc = rt.alloc();
     let mut ascending = String::new(alloc);
     for n in 100u32..200 {
-        let name = format!(in alloc; "d{n}.test")?;
-        ascending.push_str(name.as_str())?;
+        let name = format!(in alloc; "d{n}.test").expect(&rt, "memory");
+        ascending.push_str(name.as_str()).expect(&rt, "memory");
     }
     for step in [1u32, 37, 99] {
-        let text = set_text(alloc, &hundred(alloc, step % 100)?)?;
+        let set = hundred(&rt, alloc, step % 100);
+        let text = set_text(&rt, alloc, &set);
         assert_eq!(rt; text.as_str(), ascending.as_str(), "{step}");
     }
-    Ok(())
+}
+
+// A key set of this many keys, each as long as a 2,048-bit RSA key's.
+fn large_key_set(rt: &impl Abort, alloc: Global, count: u32) -> String {
+    let modulus = "A".repeat(alloc, 342).expect(rt, "memory");
+    let mut text = String::from_str(alloc, "{\"keys\":[{\"kid\":\"\"}").expect(rt, "memory");
+    for i in 0..count {
+        let key = format!(in alloc;
+            ",{{\"kid\":\"{i}\",\"kty\":\"RSA\",\"n\":\"{modulus}\",\"e\":\"AQAB\"}}"
+        );
+        let key = key.expect(rt, "memory");
+        text.push_str(key.as_str()).expect(rt, "memory");
+    }
+    text.push_str("]}").expect(rt, "memory");
+    text
 }
 
 #[test]
-fn texts(rt: HostRuntime) -> Result<(), Fail> {
+fn large_and_deep_key_sets(rt: HostRuntime) {
     let alloc = rt.alloc();
-    let errors = format!(in alloc;
-        "{}; {}; {}",
-        JwtBundleError::MissingKeyId,
-        JwtBundleError::Deserialize(JsonError::Keys),
-        JwtBundleError::OutOfMemory
-    )?;
-    assert_eq!(rt;
-        errors.as_str(),
-        "missing key ID; cannot deserialize json jwk set; out of memory"
-    );
-    let key = JwtAuthority::from_jwk_json(alloc, b"{\"kid\":\"a\"}".as_slice())?;
-    let debug = format!(in alloc; "{key:?}")?;
+    let jwks = large_key_set(&rt, alloc, 400);
+    let bundle = bundle_of(&rt, alloc, "domain.test", jwks.as_str());
+    assert_eq!(rt; bundle.jwt_authorities().count(), 401);
+    // The set, its array and the key are three of the 127 levels.
+    for (levels, is_read) in [(124, true), (125, false)] {
+        let open = "[".repeat(alloc, levels).expect(&rt, "memory");
+        let close = "]".repeat(alloc, levels).expect(&rt, "memory");
+        let jwks = format!(in alloc; "{{\"keys\":[{{\"kid\":\"a\",\"x\":{open}{close}}}]}}");
+        let jwks = jwks.expect(&rt, "memory");
+        let read = JwtBundle::from_jwt_authorities(
+            alloc,
+            domain(&rt, alloc, "domain.test"),
+            jwks.as_bytes(),
+        );
+        assert_eq!(rt; read.is_ok(), is_read, "{levels}");
+    }
+}
+
+#[test]
+fn texts(rt: HostRuntime) {
+    let alloc = rt.alloc();
+    for (error, text) in [
+        (JwtBundleError::MissingKeyId, "missing key ID"),
+        (
+            JwtBundleError::Deserialize(JsonError::Keys),
+            "cannot deserialize json jwk set",
+        ),
+        (JwtBundleError::OutOfMemory, "out of memory"),
+    ] {
+        let shown = format!(in alloc; "{error}").expect(&rt, "memory");
+        assert_eq!(rt; shown.as_str(), text);
+    }
+    let key = JwtAuthority::from_jwk_json(alloc, b"{\"kid\":\"a\"}".as_slice());
+    let debug = format!(in alloc; "{key:?}").expect(&rt, "memory");
     assert_eq!(rt;
         debug.as_str(),
-        "JwtAuthority { kid: \"a\", jwk_json: [123, 34, 107, 105, 100, 34, 58, 34, 97, 34, 125] }"
+        "Ok(JwtAuthority { kid: \"a\", jwk_json: [123, 34, 107, 105, 100, 34, 58, 34, 97, 34, 125] })"
     );
     let mut set = JwtBundleSet::new(alloc);
-    set.add_bundle(JwtBundle::new(alloc, TrustDomain::new(alloc, "a")?))?;
-    let debug = format!(in alloc; "{set:?}")?;
+    set.add_bundle(JwtBundle::new(alloc, domain(&rt, alloc, "a")))
+        .expect(&rt, "memory");
+    let debug = format!(in alloc; "{set:?}").expect(&rt, "memory");
     assert_eq!(rt;
         debug.as_str(),
         "JwtBundleSet { bundles: {TrustDomain { name: \"a\" }: JwtBundle { trust_domain: TrustDomain { name: \"a\" }, jwt_authorities: {} }} }"
     );
-    Ok(())
 }

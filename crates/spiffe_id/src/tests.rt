@@ -1,6 +1,6 @@
-// Expected values are the worked rows of the specification and its rules in their order; the error texts
-// are those of the Rust crate `spiffe`. In the tables a row is an input, ` = ` and the answer: the text of
-// the value, or the name of the first broken rule.
+// Expected values are made by hand from the rules of SPIFFE-ID section 2 in their order; the error texts are
+// those of the Rust crate `spiffe`. In the tables a row is an input, ` = ` and the answer: the text of the
+// value, or the name of the first broken rule.
 use crate::constants::{DEFAULT_SVID, SPIFFE_SCHEME, SPIFFE_SCHEME_PREFIX, SPIFFE_SOCKET_ENV};
 use crate::error::SpiffeIdError;
 use crate::laws::{have_same_text, reread_id, reread_trust_domain, reread_trust_domain_id};
@@ -9,7 +9,7 @@ use crate::spiffe_id::SpiffeId;
 use crate::trust_domain::TrustDomain;
 use std::alloc::Global;
 use std::collections::HashMap;
-use std::test::Fail;
+use std::process::Abort;
 
 const IDS: &str = "spiffe://example.org = spiffe://example.org
 spiffe://trustdomain/path1 = spiffe://trustdomain/path1
@@ -97,193 +97,215 @@ const TOO_LONG_DOMAIN: &str = "TrustDomainTooLong { max: 255 }";
 
 const TOO_LONG_ID: &str = "SpiffeIdTooLong { max: 2048 }";
 
-fn id_or_rule(alloc: Global, text: &str) -> Result<String, Fail> {
+fn id_or_rule(rt: &impl Abort, alloc: Global, text: &str) -> String {
     match SpiffeId::new(alloc, text) {
-        Ok(id) => Ok(format!(in alloc; "{id}")?),
-        Err(rule) => Ok(format!(in alloc; "{rule:?}")?),
+        Ok(id) => format!(in alloc; "{id}"),
+        Err(rule) => format!(in alloc; "{rule:?}"),
     }
+    .expect(rt, "memory")
 }
 
-fn domain_or_rule(alloc: Global, text: &str) -> Result<String, Fail> {
+fn domain_or_rule(rt: &impl Abort, alloc: Global, text: &str) -> String {
     match TrustDomain::new(alloc, text) {
-        Ok(domain) => Ok(format!(in alloc; "{domain}")?),
-        Err(rule) => Ok(format!(in alloc; "{rule:?}")?),
+        Ok(domain) => format!(in alloc; "{domain}"),
+        Err(rule) => format!(in alloc; "{rule:?}"),
     }
+    .expect(rt, "memory")
 }
 
-fn made_or_rule(alloc: Global, domain: &str, segments: &[String]) -> Result<String, Fail> {
-    match SpiffeId::from_segments(alloc, TrustDomain::new(alloc, domain)?, segments) {
-        Ok(id) => Ok(format!(in alloc; "{id}")?),
-        Err(rule) => Ok(format!(in alloc; "{rule:?}")?),
+fn made_or_rule(rt: &impl Abort, alloc: Global, domain: &str, segments: &[String]) -> String {
+    let domain = TrustDomain::new(alloc, domain).expect(rt, "a trust domain");
+    match SpiffeId::from_segments(alloc, domain, segments) {
+        Ok(id) => format!(in alloc; "{id}"),
+        Err(rule) => format!(in alloc; "{rule:?}"),
     }
+    .expect(rt, "memory")
 }
 
-fn repeated(alloc: Global, segment: &str, count: u32) -> Result<Vec<String>, Fail> {
+// This many times the segment `a`, and then one more.
+fn long_list(rt: &impl Abort, alloc: Global, count: u32, last: &str) -> Vec<String> {
     let mut segments = Vec::new(alloc);
     for _ in 0..count {
-        segments.push(String::from_str(alloc, segment)?)?;
+        let segment = String::from_str(alloc, "a").expect(rt, "memory");
+        segments.push(segment).expect(rt, "memory");
     }
-    Ok(segments)
+    let segment = String::from_str(alloc, last).expect(rt, "memory");
+    segments.push(segment).expect(rt, "memory");
+    segments
 }
 
 #[test]
-fn ids(rt: HostRuntime) -> Result<(), Fail> {
-    let alloc = rt.alloc();
+fn ids(rt: HostRuntime) {
     for row in IDS.lines() {
-        let (text, wanted) = row.split_once(" = ").ok_or("no answer")?;
-        assert_eq!(rt; id_or_rule(alloc, text)?.as_str(), wanted, "{row}");
+        let (text, wanted) = row.split_once(" = ").expect(&rt, "an answer");
+        assert_eq!(rt; id_or_rule(&rt, rt.alloc(), text).as_str(), wanted, "{row}");
     }
-    Ok(())
 }
 
 #[test]
-fn trust_domains(rt: HostRuntime) -> Result<(), Fail> {
-    let alloc = rt.alloc();
+fn trust_domains(rt: HostRuntime) {
     for row in DOMAINS.lines() {
-        let (text, wanted) = row.split_once(" = ").ok_or("no answer")?;
-        assert_eq!(rt; domain_or_rule(alloc, text)?.as_str(), wanted, "{row}");
+        let (text, wanted) = row.split_once(" = ").expect(&rt, "an answer");
+        assert_eq!(rt;
+            domain_or_rule(&rt, rt.alloc(), text).as_str(),
+            wanted,
+            "{row}"
+        );
     }
-    Ok(())
 }
 
 #[test]
-fn long_trust_domains(rt: HostRuntime) -> Result<(), Fail> {
+fn long_trust_domains(rt: HostRuntime) {
     let alloc = rt.alloc();
-    let fits = "a".repeat(alloc, 255)?;
-    let long = "a".repeat(alloc, 256)?;
-    let long_and_bad = "?".repeat(alloc, 256)?;
-    let long_in_http = format!(in alloc; "http://{long}")?;
-    let long_before_scheme = format!(in alloc; "{long}:/x")?;
-    for (text, wanted) in [
-        (fits.as_str(), fits.as_str()),
-        (long.as_str(), TOO_LONG_DOMAIN),
-        (long_and_bad.as_str(), TOO_LONG_DOMAIN),
-        (long_in_http.as_str(), "WrongScheme"),
-        (long_before_scheme.as_str(), "WrongScheme"),
+    for (before, byte, count, after, wanted) in [
+        ("", "a", 255, "", ""),
+        ("", "a", 256, "", TOO_LONG_DOMAIN),
+        ("", "?", 256, "", TOO_LONG_DOMAIN),
+        ("http://", "a", 256, "", "WrongScheme"),
+        ("", "a", 256, ":/x", "WrongScheme"),
     ] {
-        assert_eq!(rt; domain_or_rule(alloc, text)?.as_str(), wanted, "{text}");
+        let name = byte.repeat(alloc, count).expect(&rt, "memory");
+        let text = format!(in alloc; "{before}{name}{after}").expect(&rt, "memory");
+        let answer = domain_or_rule(&rt, alloc, text.as_str());
+        let wanted = if wanted.is_empty() {
+            text.as_str()
+        } else {
+            wanted
+        };
+        assert_eq!(rt; answer.as_str(), wanted, "{text}");
     }
-    Ok(())
 }
 
+// Each rule of a path behind a trust domain that fits, behind one that is too long, and behind another scheme.
 #[test]
-fn ids_of_long_trust_domains(rt: HostRuntime) -> Result<(), Fail> {
+fn ids_of_long_trust_domains(rt: HostRuntime) {
     let alloc = rt.alloc();
-    let fits = "a".repeat(alloc, 255)?;
-    let long = "?".repeat(alloc, 256)?;
     for (path, rule) in [
         ("/", "TrailingSlash"),
         ("//b", "EmptySegment"),
         ("/.", "DotSegment"),
         ("/?", "BadPathSegmentChar"),
     ] {
-        let text = format!(in alloc; "spiffe://{fits}{path}")?;
-        assert_eq!(rt; id_or_rule(alloc, text.as_str())?.as_str(), rule);
-        let text = format!(in alloc; "spiffe://{long}{path}")?;
-        assert_eq!(rt; id_or_rule(alloc, text.as_str())?.as_str(), TOO_LONG_DOMAIN);
-        let text = format!(in alloc; "http://{long}{path}")?;
-        assert_eq!(rt; id_or_rule(alloc, text.as_str())?.as_str(), "WrongScheme");
+        for (before, byte, count, wanted) in [
+            ("spiffe://", "a", 255, rule),
+            ("spiffe://", "?", 256, TOO_LONG_DOMAIN),
+            ("http://", "?", 256, "WrongScheme"),
+        ] {
+            let name = byte.repeat(alloc, count).expect(&rt, "memory");
+            let text = format!(in alloc; "{before}{name}{path}").expect(&rt, "memory");
+            let answer = id_or_rule(&rt, alloc, text.as_str());
+            assert_eq!(rt; answer.as_str(), wanted, "{text}");
+        }
     }
-    Ok(())
 }
 
 #[test]
-fn segments(rt: HostRuntime) -> Result<(), Fail> {
+fn segments(rt: HostRuntime) {
     let alloc = rt.alloc();
     for row in SEGMENTS.lines() {
-        let (list, wanted) = row.split_once(" = ").ok_or("no answer")?;
+        let (list, wanted) = row.split_once(" = ").expect(&rt, "an answer");
         let mut segments = Vec::new(alloc);
         for segment in list.split(',') {
-            segments.push(String::from_str(alloc, segment)?)?;
+            let segment = String::from_str(alloc, segment).expect(&rt, "memory");
+            segments.push(segment).expect(&rt, "memory");
         }
-        assert_eq!(rt;
-            made_or_rule(alloc, "trustdomain", &segments)?.as_str(),
-            wanted,
-            "{row}"
-        );
+        let answer = made_or_rule(&rt, alloc, "trustdomain", &segments);
+        assert_eq!(rt; answer.as_str(), wanted, "{row}");
     }
-    Ok(())
 }
 
+// The limit of an id that is made is on its bytes: 9 of the scheme, the trust domain, and two for each segment `a`.
 #[test]
-fn long_ids(rt: HostRuntime) -> Result<(), Fail> {
+fn long_ids(rt: HostRuntime) {
     let alloc = rt.alloc();
-    // The limit is on the bytes of the whole id: 9 of the scheme, the trust domain, the path.
-    let fits = repeated(alloc, "a", 1014)?;
-    assert_eq!(rt; made_or_rule(alloc, "example.org", &fits)?.len(), 2048);
-    assert_eq!(rt;
-        made_or_rule(alloc, "example2.org", &fits)?.as_str(),
-        TOO_LONG_ID
-    );
-    for (segment, wanted) in [
-        ("a", TOO_LONG_ID),
-        ("", "EmptySegment"),
-        ("a/b", "BadPathSegmentChar"),
-        ("..", "DotSegment"),
-        ("?", "BadPathSegmentChar"),
+    for (domain, count, last, wanted) in [
+        ("example.org", 1013, "a", "spiffe://example.org/a/a"),
+        ("example2.org", 1013, "a", TOO_LONG_ID),
+        ("example.org", 1014, "a", TOO_LONG_ID),
+        ("example.org", 1015, "", "EmptySegment"),
+        ("example.org", 1015, "a/b", "BadPathSegmentChar"),
+        ("example.org", 1015, "..", "DotSegment"),
+        ("example.org", 1015, "?", "BadPathSegmentChar"),
+        ("example.org", 0, "a", "spiffe://example.org/a"),
     ] {
-        let mut segments = repeated(alloc, "a", 1015)?;
-        segments.push(String::from_str(alloc, segment)?)?;
-        assert_eq!(rt;
-            made_or_rule(alloc, "example.org", &segments)?.as_str(),
-            wanted
-        );
+        let segments = long_list(&rt, alloc, count, last);
+        let answer = made_or_rule(&rt, alloc, domain, &segments);
+        assert!(rt; answer.as_str().starts_with(wanted), "{count} of {domain}");
+        assert!(rt; answer.len() <= 2048);
     }
-    let none = repeated(alloc, "a", 0)?;
+    let none = Vec::new(alloc);
+    let alone = made_or_rule(&rt, alloc, "example.org", &none);
+    assert_eq!(rt; alone.as_str(), "spiffe://example.org");
+}
+
+// The text of an id that is read has no limit.
+#[test]
+fn long_texts(rt: HostRuntime) {
+    let alloc = rt.alloc();
+    let path = "/a".repeat(alloc, 100_000).expect(&rt, "memory");
+    let text = format!(in alloc; "spiffe://a{path}").expect(&rt, "memory");
     assert_eq!(rt;
-        made_or_rule(alloc, "example.org", &none)?.as_str(),
-        "spiffe://example.org"
+        id_or_rule(&rt, alloc, text.as_str()).as_str(),
+        text.as_str()
     );
-    // The text of an id that is read has no limit.
-    let path = "/a".repeat(alloc, 2000)?;
-    let text = format!(in alloc; "spiffe://a{path}")?;
-    assert_eq!(rt; id_or_rule(alloc, text.as_str())?.as_str(), text.as_str());
-    Ok(())
+}
+
+fn read(rt: &impl Abort, alloc: Global, text: &str) -> SpiffeId {
+    SpiffeId::new(alloc, text).expect(rt, "an id")
 }
 
 #[test]
-fn accessors(rt: HostRuntime) -> Result<(), Fail> {
+fn accessors(rt: HostRuntime) {
     let alloc = rt.alloc();
-    let id = SpiffeId::new(alloc, "SPIFFE://A/B")?;
+    let id = read(&rt, alloc, "SPIFFE://A/B");
     assert_eq!(rt; id.trust_domain_name(), "a");
     assert_eq!(rt; id.path(), "/B");
     assert_eq!(rt; id.trust_domain().as_str(), "a");
-    assert_eq!(rt; id.trust_domain().id_string(alloc)?.as_str(), "spiffe://a");
-    let debug = format!(in alloc; "{id:?}")?;
+    let text = id.trust_domain().id_string(alloc).expect(&rt, "memory");
+    assert_eq!(rt; text.as_str(), "spiffe://a");
+}
+
+#[test]
+fn printed_ids(rt: HostRuntime) {
+    let alloc = rt.alloc();
+    let id = read(&rt, alloc, "SPIFFE://A/B");
+    let domain = id.trust_domain();
+    let debug = format!(in alloc; "{id:?}").expect(&rt, "memory");
     let shown = "SpiffeId { trust_domain: TrustDomain { name: \"a\" }, path: \"/B\" }";
     assert_eq!(rt; debug.as_str(), shown);
-    Ok(())
+    let padded = format!(in alloc; "{id:20}|{domain:5.0}|").expect(&rt, "memory");
+    assert_eq!(rt; padded.as_str(), "spiffe://a/B|a|");
 }
 
-// Whether an id is equal to its copy and to what is read back of it, and so is its trust domain.
-fn is_kept(alloc: Global, id: &SpiffeId) -> Result<bool, SpiffeIdError> {
+// An id is equal to its copy and to what is read back of it, and so is its trust domain.
+#[test]
+fn copies(rt: HostRuntime) {
+    let alloc = rt.alloc();
+    let id = read(&rt, alloc, "spiffe://a/B");
     let domain = id.trust_domain();
-    Ok(
-        id.try_clone(alloc)? == *id
-            && reread_id(alloc, id)? == *id
-            && domain.try_clone(alloc)? == *domain
-            && reread_trust_domain(alloc, domain)? == *domain
-            && reread_trust_domain_id(alloc, domain)? == *domain,
-    )
+    assert!(rt; id.try_clone(alloc).is_ok_and(|copy| copy == id));
+    assert!(rt; reread_id(alloc, &id).is_ok_and(|copy| copy == id));
+    assert!(rt; domain.try_clone(alloc).is_ok_and(|copy| copy == *domain));
+    assert!(rt; reread_trust_domain(alloc, domain).is_ok_and(|copy| copy == *domain));
+    assert!(rt; reread_trust_domain_id(alloc, domain).is_ok_and(|copy| copy == *domain));
 }
 
 #[test]
-fn comparisons(rt: HostRuntime) -> Result<(), Fail> {
+fn comparisons(rt: HostRuntime) {
     let alloc = rt.alloc();
-    let id = SpiffeId::new(alloc, "spiffe://a/B")?;
-    let other = SpiffeId::new(alloc, "spiffe://a/b")?;
+    let id = read(&rt, alloc, "spiffe://a/B");
+    let other = read(&rt, alloc, "spiffe://a/b");
     assert!(rt; id < other);
     assert!(rt; id.is_member_of(other.trust_domain()));
-    assert!(rt; !have_same_text(alloc, &id, &other)?);
-    assert!(rt; is_kept(alloc, &id)?);
+    assert_eq!(rt; have_same_text(alloc, &id, &other).ok(), Some(false));
     let mut places = HashMap::new(alloc);
-    places.insert(other, 2)?;
+    let before = places.insert(other, 2);
+    assert_eq!(rt; before.ok(), Some(None));
     assert_eq!(rt; places.get(&id), None);
-    Ok(())
 }
 
 #[test]
-fn names(rt: HostRuntime) -> Result<(), Fail> {
+fn names(rt: HostRuntime) {
     for (uri, has) in [
         ("sPiFfE://", true),
         ("spiffe:/domain.test", false),
@@ -297,36 +319,45 @@ fn names(rt: HostRuntime) -> Result<(), Fail> {
     assert_eq!(rt; SPIFFE_SCHEME_PREFIX, "spiffe://");
     assert_eq!(rt; SPIFFE_SOCKET_ENV, "SPIFFE_ENDPOINT_SOCKET");
     assert_eq!(rt; DEFAULT_SVID, 0);
-    Ok(())
 }
 
 #[test]
-fn error_texts(rt: HostRuntime) -> Result<(), Fail> {
-    let alloc = rt.alloc();
-    let shown = format!(in alloc;
-        "{}; {}; {}; {}; {}; {}",
-        SpiffeIdError::Empty,
-        SpiffeIdError::MissingTrustDomain,
-        SpiffeIdError::WrongScheme,
-        SpiffeIdError::EmptySegment,
-        SpiffeIdError::DotSegment,
-        SpiffeIdError::TrailingSlash
-    )?;
-    assert_eq!(rt;
-        shown.as_str(),
-        "cannot be empty; trust domain is missing; scheme is missing or invalid; path cannot contain empty segments; path cannot contain dot segments; path cannot have a trailing slash"
-    );
-    let shown = format!(in alloc;
-        "{}; {}; {}; {}; {}",
-        SpiffeIdError::BadTrustDomainChar,
-        SpiffeIdError::BadPathSegmentChar,
-        SpiffeIdError::SpiffeIdTooLong { max: 2048 },
-        SpiffeIdError::TrustDomainTooLong { max: 255 },
-        SpiffeIdError::OutOfMemory
-    )?;
-    assert_eq!(rt;
-        shown.as_str(),
-        "trust domain may only contain ASCII letters (case-insensitive), digits, dots, dashes, and underscores; path segment characters are limited to letters, numbers, dots, dashes, and underscores; SPIFFE ID URI exceeds maximum length (2048 bytes); trust domain exceeds maximum length (255 bytes); out of memory"
-    );
-    Ok(())
+fn error_texts(rt: HostRuntime) {
+    for (error, text) in [
+        (SpiffeIdError::Empty, "cannot be empty"),
+        (SpiffeIdError::MissingTrustDomain, "trust domain is missing"),
+        (SpiffeIdError::WrongScheme, "scheme is missing or invalid"),
+        (
+            SpiffeIdError::EmptySegment,
+            "path cannot contain empty segments",
+        ),
+        (
+            SpiffeIdError::DotSegment,
+            "path cannot contain dot segments",
+        ),
+        (
+            SpiffeIdError::TrailingSlash,
+            "path cannot have a trailing slash",
+        ),
+        (
+            SpiffeIdError::BadTrustDomainChar,
+            "trust domain may only contain ASCII letters (case-insensitive), digits, dots, dashes, and underscores",
+        ),
+        (
+            SpiffeIdError::BadPathSegmentChar,
+            "path segment characters are limited to letters, numbers, dots, dashes, and underscores",
+        ),
+        (
+            SpiffeIdError::SpiffeIdTooLong { max: 2048 },
+            "SPIFFE ID URI exceeds maximum length (2048 bytes)",
+        ),
+        (
+            SpiffeIdError::TrustDomainTooLong { max: 255 },
+            "trust domain exceeds maximum length (255 bytes)",
+        ),
+        (SpiffeIdError::OutOfMemory, "out of memory"),
+    ] {
+        let shown = format!(in rt.alloc(); "{error}").expect(&rt, "memory");
+        assert_eq!(rt; shown.as_str(), text);
+    }
 }

@@ -211,6 +211,6 @@ impl fmt::Display for TrustDomain {
     ghost output = { λ d. Some d };
 
     fn fmt<W: fmt::Write>(&self, f: &mut fmt::Formatter<W>) -> fmt::Result {
-        fmt::Display::fmt(&self.as_str(), f)
+        f.write_str(self.as_str())
     }
 }

@@ -1,10 +1,10 @@
 // What is read and what is refused follows the rules on JSON numbers of 64 bits and `serde_json`'s own limit
-// of 127 levels; the texts are the specification's. A row of the table is a number, the answer where it
+// of 127 levels; the texts are this crate's own. A row of the table is a number, the answer where it
 // stands in the value, and the answer where a later member of its name replaces it.
 use crate::error::{JsonError, ReadError};
 use crate::read::read_json;
 use std::alloc::Global;
-use std::test::Fail;
+use std::process::Abort;
 
 const NUMBERS: &str = "0 read read
 -1 read read
@@ -20,63 +20,76 @@ const NUMBERS: &str = "0 read read
 1e400 Json(Syntax) Json(Syntax)
 01 Json(Syntax) Json(Syntax)";
 
-fn answer(alloc: Global, text: &[u8]) -> Result<String, Fail> {
+fn answer(rt: &impl Abort, alloc: Global, text: &[u8]) -> String {
     match read_json(alloc, text) {
-        Ok(_) => Ok(String::from_str(alloc, "read")?),
-        Err(e) => Ok(format!(in alloc; "{e:?}")?),
+        Ok(_) => String::from_str(alloc, "read"),
+        Err(e) => format!(in alloc; "{e:?}"),
     }
+    .expect(rt, "memory")
 }
 
 #[test]
-fn numbers(rt: HostRuntime) -> Result<(), Fail> {
+fn numbers(rt: HostRuntime) {
     let alloc = rt.alloc();
     for row in NUMBERS.lines() {
-        let (number, answers) = row.split_once(" ").ok_or("no answers")?;
-        let (wanted, if_replaced) = answers.split_once(" ").ok_or("one answer")?;
-        assert_eq!(rt; answer(alloc, number.as_bytes())?.as_str(), wanted, "{row}");
-        let member = format!(in alloc; "{{\"kid\":\"a\",\"x\":[[],{{\"y\":{number}}}]}}")?;
-        assert_eq!(rt; answer(alloc, member.as_bytes())?.as_str(), wanted, "{row}");
-        let replaced = format!(in alloc; "{{\"x\":{number},\"x\":1}}")?;
+        let (number, answers) = row.split_once(" ").expect(&rt, "answers");
+        let (wanted, if_replaced) = answers.split_once(" ").expect(&rt, "two answers");
+        for (before, after, wanted) in [
+            ("", "", wanted),
+            ("{\"kid\":\"a\",\"x\":[[],{\"y\":", "}]}", wanted),
+            ("{\"x\":", ",\"x\":1}", if_replaced),
+        ] {
+            let text = format!(in alloc; "{before}{number}{after}").expect(&rt, "memory");
+            let found = answer(&rt, alloc, text.as_bytes());
+            assert_eq!(rt; found.as_str(), wanted, "{text}");
+        }
+    }
+}
+
+#[test]
+fn syntax(rt: HostRuntime) {
+    let alloc = rt.alloc();
+    for (text, wanted) in [
+        (b"\"\xc3\xa9\"".as_slice(), "read"),
+        (b"\"\xc3\"", "Json(Syntax)"),
+        (b"", "Json(Syntax)"),
+        (b"{}{}", "Json(Syntax)"),
+    ] {
+        assert_eq!(rt; answer(&rt, alloc, text).as_str(), wanted);
+    }
+    for (levels, wanted) in [(127, "read"), (128, "Json(Syntax)")] {
+        let open = "[".repeat(alloc, levels).expect(&rt, "memory");
+        let close = "]".repeat(alloc, levels).expect(&rt, "memory");
+        let text = format!(in alloc; "{open}{close}").expect(&rt, "memory");
         assert_eq!(rt;
-            answer(alloc, replaced.as_bytes())?.as_str(),
-            if_replaced,
-            "{row}"
+            answer(&rt, alloc, text.as_bytes()).as_str(),
+            wanted,
+            "{levels}"
         );
     }
-    Ok(())
 }
 
-fn nested(alloc: Global, levels: usize) -> Result<String, Fail> {
-    let mut text = "[".repeat(alloc, levels)?;
-    let closed = "]".repeat(alloc, levels)?;
-    text.push_str(closed.as_str())?;
-    answer(alloc, text.as_bytes())
+// A text of a megabyte: many members, and long ones.
+#[test]
+fn large_texts(rt: HostRuntime) {
+    let alloc = rt.alloc();
+    let long = "x".repeat(alloc, 1_000_000).expect(&rt, "memory");
+    let many = ",7".repeat(alloc, 500_000).expect(&rt, "memory");
+    let text = format!(in alloc; "{{\"long\":\"{long}\",\"many\":[7{many}]}}");
+    let text = text.expect(&rt, "memory");
+    assert_eq!(rt; answer(&rt, alloc, text.as_bytes()).as_str(), "read");
 }
 
 #[test]
-fn syntax(rt: HostRuntime) -> Result<(), Fail> {
-    let alloc = rt.alloc();
-    assert_eq!(rt; nested(alloc, 127)?.as_str(), "read");
-    assert_eq!(rt; nested(alloc, 128)?.as_str(), "Json(Syntax)");
-    assert_eq!(rt; answer(alloc, b"\"\xc3\xa9\"")?.as_str(), "read");
-    assert_eq!(rt; answer(alloc, b"\"\xc3\"")?.as_str(), "Json(Syntax)");
-    assert_eq!(rt; answer(alloc, b"")?.as_str(), "Json(Syntax)");
-    assert_eq!(rt; answer(alloc, b"{}{}")?.as_str(), "Json(Syntax)");
-    Ok(())
-}
-
-#[test]
-fn texts(rt: HostRuntime) -> Result<(), Fail> {
-    let alloc = rt.alloc();
-    let shown = format!(in alloc;
-        "{}; {}; {}; {}; {}",
-        JsonError::Syntax,
-        JsonError::Number,
-        JsonError::Keys,
-        ReadError::Json(JsonError::Shape),
-        ReadError::OutOfMemory
-    )?;
-    let wanted = "invalid JSON; number not allowed; no keys array; bad shape; out of memory";
-    assert_eq!(rt; shown.as_str(), wanted);
-    Ok(())
+fn texts(rt: HostRuntime) {
+    for (error, text) in [
+        (ReadError::Json(JsonError::Syntax), "invalid JSON"),
+        (ReadError::Json(JsonError::Number), "number not allowed"),
+        (ReadError::Json(JsonError::Keys), "no keys array"),
+        (ReadError::Json(JsonError::Shape), "bad shape"),
+        (ReadError::OutOfMemory, "out of memory"),
+    ] {
+        let shown = format!(in rt.alloc(); "{error}").expect(&rt, "memory");
+        assert_eq!(rt; shown.as_str(), text);
+    }
 }
