@@ -6,7 +6,7 @@ use Rattle.std.proofs.lemmas.List.{drop_all}
 use Rattle.std.proofs.lemmas.Fmt.{decimal_digit, decimal_step, decimal_by_steps, first_decimal}
 use Rattle.std.specs.Fmt.{decimal}
 use Rattle.der_core.specs.Oid.{EndsDigits}
-use Rattle.der_core.proofs.Lengths.{branch}
+use Rattle.der_core.specs.LengthLaws.{branch}
 
 -- Reading digits, where `number` is what the digits before stand for.
 unfoldable pub digits_from : ℕ → List ℕ → Option (ℕ × List ℕ)

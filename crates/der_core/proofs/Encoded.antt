@@ -5,7 +5,7 @@ use Rattle.der_core.specs.declared.error.Error.{Error}
 use Rattle.der_core.specs.declared.error.Error.TheVariants as error
 use Rattle.der_core.specs.Any.{PlainAny, plain_any, der_of, EncodedFrom}
 use Rattle.der_core.specs.Der.{IsTag, IsValue}
-use Rattle.der_core.proofs.Values.{values_unique}
+use Rattle.der_core.specs.ValueLaws.{values_unique}
 
 plain_value : (p : PlainAny) → IsTag p.tag → length (der_of p) < 2 ^ 32 → IsValue (der_of p)
 plain_value p t fits = record { tag = p.tag; content = p.content; tag_ok = t; is = refl; fits = fits }

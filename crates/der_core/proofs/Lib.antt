@@ -1,10 +1,7 @@
 -- Lemmas.
-pub mod Lengths
-pub mod Values
 pub mod Tagged
 pub mod Writing
 pub mod Oids
-pub mod Sequences
 pub mod Subidentifiers
 pub mod Identifiers
 pub mod Owned

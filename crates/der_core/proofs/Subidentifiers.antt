@@ -4,7 +4,7 @@ use Rattle.std.proofs.lemmas.Bool.{lt-ltb, le-ltb, ltb-true, ltb-false, cases_lt
 use Rattle.std.proofs.lemmas.Option.{same_Some, none-some}
 use Rattle.std.proofs.lemmas.List.{drop_all, nil_from_length}
 use Rattle.der_core.specs.Oid.{high_bytes, subidentifier_bytes, numbers_from}
-use Rattle.der_core.proofs.Lengths.{branch, IsBytes, IsBytes_tail}
+use Rattle.der_core.specs.LengthLaws.{branch, IsBytes, IsBytes_tail}
 
 high_bytes_1 : (n : ℕ) → n < 128 → high_bytes n ≡ (128 + n) ∷ []
 unfolding high_bytes

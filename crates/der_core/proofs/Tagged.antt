@@ -1,29 +1,13 @@
 -- Which value of a fixed tag stands at the front.
 use Rattle.std.proofs.Common.{◌≡◌, ℕ, ◌^◌, ◌<◌, List, ◌++◌, length, Result, Ok, Err, ap, sym, ◌∙◌}
-use Rattle.std.proofs.lemmas.Option.{same_Some}
 use Rattle.std.specs.Prelude.{OnErr}
 use Rattle.der_core.specs.Der.{IsTag, encode}
-use Rattle.der_core.specs.Header.{read_value}
 use Rattle.der_core.specs.Decode.{ReadsTagged}
-use Rattle.der_core.proofs.Values.{read_value_again}
+use Rattle.der_core.specs.ValueLaws.{same_value}
 
 pub on_err_any : {T E P : Type 0} (r : Result T E) → P → OnErr r P
 on_err_any (Ok x) p = tt
 on_err_any (Err e) p = p
-
-pub record SameValue (tag : ℕ) (content rest : List ℕ) (tag' : ℕ) (content' rest' : List ℕ) : Type 0 where
-  pub tags : tag ≡ tag'
-  pub contents : content ≡ content'
-  pub rests : rest ≡ rest'
-
-pub same_value : (tag : ℕ) (content rest : List ℕ) (tag' : ℕ) (content' rest' : List ℕ) → IsTag tag → length (encode tag content) < 2 ^ 32 → IsTag tag' → length (encode tag' content') < 2 ^ 32 → encode tag content ++ rest ≡ encode tag' content' ++ rest' → SameValue tag content rest tag' content' rest'
-same_value tag content rest tag' content' rest' t f t' f' e =
-    let parts = same_Some _ _ (sym (read_value_again tag content rest t f) ∙ ap read_value e ∙ read_value_again tag' content' rest' t' f') in
-    record {
-      tags = ap (λ (p : ℕ × List ℕ × List ℕ). p.0) parts;
-      contents = ap (λ (p : ℕ × List ℕ × List ℕ). p.1) parts;
-      rests = ap (λ (p : ℕ × List ℕ × List ℕ). p.2) parts;
-    }
 
 pub record AtFront {V : Type 0} (tag : ℕ) (content : List ℕ) (fixed : ℕ) (HasContent : List ℕ → V → Type 0) (v : V) : Type 0 where
   pub tag_is : tag ≡ fixed

@@ -1,5 +1,6 @@
 -- The text of an object identifier, and which contents have it.
 use Rattle.std.proofs.Common.{◌≡◌, ℕ, ◌+◌, ◌^◌, ◌<◌, ◌≤◌, List, [], ◌∷◌, ◌++◌, length, map, Option, None, Some, IfNone, refl, ap, sym, subst, ◌∙◌, arith, append_assoc, append-nil, length-append}
+use Rattle.std.proofs.lemmas.Grind.{flat_map-append}
 use Rattle.std.proofs.lemmas.List.Elements.{All-cons, All-nil}
 use Rattle.std.specs.List.{All, flat_map, join_with_byte}
 use Rattle.std.specs.Fmt.{decimal}
@@ -15,10 +16,6 @@ tail_text ns = flat_map (λ (n : ℕ). 46 ∷ decimal n) ns
 pub ends_tail : (ns : List ℕ) → EndsDigits (tail_text ns)
 ends_tail [] = record { no_digit = λ h _. omega arith }
 ends_tail (n ∷ ns) = record { no_digit = λ h _. omega arith }
-
-flat_append : (f : ℕ → List ℕ) (xs ys : List ℕ) → flat_map f (xs ++ ys) ≡ flat_map f xs ++ flat_map f ys
-flat_append f [] ys = refl
-flat_append f (x ∷ xs) ys = ap (λ (s : List ℕ). f x ++ s) (flat_append f xs ys) ∙ sym (append_assoc (f x) (flat_map f xs) (flat_map f ys))
 
 -- A content's numbers: there is a first one.
 pub record Numbers (content : List ℕ) : Type 0 where
@@ -66,7 +63,7 @@ are_push content n a small =
     let e = numbers_push content n a small in
     let tail : flat_map subidentifier_bytes (n ∷ []) ≡ subidentifier_bytes n = append-nil (subidentifier_bytes n) in
     let whole : flat_map subidentifier_bytes (subidentifiers content ++ n ∷ []) ≡ content ++ subidentifier_bytes n =
-    flat_append subidentifier_bytes (subidentifiers content) (n ∷ []) ∙ ap (λ (s : List ℕ). flat_map subidentifier_bytes (subidentifiers content) ++ s) tail ∙ ap (λ (s : List ℕ). s ++ subidentifier_bytes n) (sym a.spelt) in
+    flat_map-append subidentifier_bytes (subidentifiers content) (n ∷ []) ∙ ap (λ (s : List ℕ). flat_map subidentifier_bytes (subidentifiers content) ++ s) tail ∙ ap (λ (s : List ℕ). s ++ subidentifier_bytes n) (sym a.spelt) in
     record {
       spelt = sym whole ∙ ap (λ (ns : List ℕ). flat_map subidentifier_bytes ns) (sym e);
       small = subst (All (λ n. n < 2 ^ 32)) (sym e) (All-push (subidentifiers content) n a.small small);
@@ -85,7 +82,7 @@ pub text_push : (content : List ℕ) (n : ℕ) → AreSubidentifiers content →
 text_push content n a some small =
     let ms = numbers_of_content content a some in
     let tail : tail_text (ms.others ++ n ∷ []) ≡ tail_text ms.others ++ (46 ∷ decimal n) =
-    flat_append (λ (n : ℕ). 46 ∷ decimal n) ms.others (n ∷ []) ∙ ap (λ (s : List ℕ). tail_text ms.others ++ (46 ∷ s)) (append-nil (decimal n)) in
+    flat_map-append (λ (n : ℕ). 46 ∷ decimal n) ms.others (n ∷ []) ∙ ap (λ (s : List ℕ). tail_text ms.others ++ (46 ∷ s)) (append-nil (decimal n)) in
     let first : List ℕ = decimal (first_arc ms.first) in
     let second : List ℕ = decimal (second_arc ms.first) in
     text_of (content ++ subidentifier_bytes n) ms.first (ms.others ++ n ∷ []) (numbers_push content n a small ∙ ap (λ (xs : List ℕ). xs ++ n ∷ []) ms.are)
@@ -170,7 +167,7 @@ continues_first text rest after first second n is small ends is' small' ends' is
 pub continues_length : (c content rest : List ℕ) → IsOidContent c → AreSubidentifiers content → Continues c content rest → length content ≤ length c
 continues_length c content rest ok a k =
     let whole : c ≡ content ++ flat_map subidentifier_bytes k.more =
-    ok.numbers.spelt ∙ ap (λ (ns : List ℕ). flat_map subidentifier_bytes ns) k.numbers ∙ flat_append subidentifier_bytes (subidentifiers content) k.more ∙ ap (λ (s : List ℕ). s ++ flat_map subidentifier_bytes k.more) (sym a.spelt) in
+    ok.numbers.spelt ∙ ap (λ (ns : List ℕ). flat_map subidentifier_bytes ns) k.numbers ∙ flat_map-append subidentifier_bytes (subidentifiers content) k.more ∙ ap (λ (s : List ℕ). s ++ flat_map subidentifier_bytes k.more) (sym a.spelt) in
     let n = ap length whole in
     omega (arith, length-append content (flat_map subidentifier_bytes k.more))
 
@@ -212,3 +209,33 @@ no_room c content rest after n ok a k is small ends full =
 pub if_none : {T P : Type 0} (o : Option T) → P → IfNone o P
 if_none None p = p
 if_none (Some x) p = tt
+
+-- Numbers behind dots are told by their text.
+tails_same : (ns ms : List ℕ) → All (λ n. n < 2 ^ 32) ns → All (λ n. n < 2 ^ 32) ms → tail_text ns ≡ tail_text ms → ns ≡ ms
+tails_same [] [] small small' e = refl
+tails_same [] (m ∷ ms) small small' e = cc
+tails_same (n ∷ ns) [] small small' e = cc
+tails_same (n ∷ ns) (m ∷ ms) small small' e =
+    let P : ℕ → Type 0 = λ k. k < 2 ^ 32 in
+    let both = number_unique n m (tail_text ns) (tail_text ms) (All-head P n ns small) (All-head P m ms small') (ends_tail ns) (ends_tail ms) (tail_of _ _ e) in
+    let with_first : ℕ → List ℕ = λ k. k ∷ ns in
+    ap with_first both.0 ∙ ap (λ (ks : List ℕ). m ∷ ks) (tails_same ns ms (All-tail P n ns small) (All-tail P m ms small') both.1)
+
+-- A subidentifier is told by its two arcs.
+first_same : (n m : ℕ) → first_arc n ≡ first_arc m → second_arc n ≡ second_arc m → n ≡ m
+first_same n m e f = omega arith
+
+-- A content is told by its text.
+pub same_content : (a b : List ℕ) → IsOidContent a → IsOidContent b → oid_text a ≡ oid_text b → a ≡ b
+same_content a b ok ok' e =
+    let P : ℕ → Type 0 = λ k. k < 2 ^ 32 in
+    let na = numbers_of_content a ok.numbers ok.some in
+    let second = after_second b (oid_text a) (46 ∷ (decimal (second_arc na.first) ++ tail_text na.others)) (tail_text na.others) (first_arc na.first) (second_arc na.first) ok' (sym e) (text_of a na.first na.others na.are) (first_small na.first) (record { no_digit = λ h _. omega arith }) refl (second_small na.first na.small) (ends_tail na.others) in
+    let nb = second.numbers in
+    let firsts : na.first ≡ nb.first = first_same na.first nb.first second.first_is second.second_is in
+    let small_a = All-tail P na.first na.others (subst (All P) na.are ok.numbers.small) in
+    let small_b = All-tail P nb.first nb.others (subst (All P) nb.are ok'.numbers.small) in
+    let others : na.others ≡ nb.others = tails_same na.others nb.others small_a small_b second.after_is in
+    let with_first : ℕ → List ℕ = λ k. k ∷ na.others in
+    let numbers : subidentifiers a ≡ subidentifiers b = na.are ∙ ap with_first firsts ∙ ap (λ (ks : List ℕ). nb.first ∷ ks) others ∙ sym nb.are in
+    ok.numbers.spelt ∙ ap (λ (ks : List ℕ). flat_map subidentifier_bytes ks) numbers ∙ sym ok'.numbers.spelt

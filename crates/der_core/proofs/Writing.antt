@@ -1,12 +1,13 @@
--- What one write after another wrote.
-use Rattle.std.proofs.Common.{◌≡◌, ℕ, ◌+◌, ◌^◌, ◌<◌, ◌≤◌, List, [], ◌∷◌, ◌++◌, length, Result, Ok, Err, refl, ap, sym, ◌∙◌, inl, inr, arith, append_assoc, length-append}
+-- Lengths of what is written, and a header and a content as one value.
+use Rattle.std.proofs.Common.{◌≡◌, ℕ, ◌+◌, ◌^◌, ◌<◌, ◌≤◌, List, [], ◌∷◌, ◌++◌, length, Option, Result, Ok, Err, ap, sym, ◌∙◌, arith}
 use Rattle.std.specs.Prelude.{MatchResult}
 use Rattle.der_core.specs.declared.error.Error.{Error}
 use Rattle.der_core.specs.declared.error.Error.TheVariants as error
-use Rattle.identity_io.specs.Causes.{Rose}
 use Rattle.der_core.specs.Der.{length_bytes, encode}
 use Rattle.der_core.specs.Encode.{Wrote, LengthOf}
-use Rattle.der_core.proofs.Values.{header_length, length_encode, small_fits, encode_parts}
+use Rattle.der_core.specs.Writing.{wrote_behind}
+use Rattle.der_core.specs.Laws.{length_encode}
+use Rattle.der_core.specs.ValueLaws.{header_length, small_fits, encode_parts}
 
 pub too_long : (tag : ℕ) (content : List ℕ) → 4294967290 ≤ length content → 2 ^ 32 ≤ length (encode tag content)
 too_long tag content h =
@@ -30,33 +31,12 @@ encoded_len_err tag content r e is h =
     let h1 : 2 ^ 32 ≤ length content = h.1 in
     rw is (h.0, too_long tag content (omega arith))
 
-pub wrote_long : {W X : Type 0} (HasTold : W → List ℕ → Type 0) (refusals : W → ℕ) (old new : W) (bytes : List ℕ) (r : Result X Error) → r ≡ Err error.Overlength → 2 ^ 32 ≤ length bytes → Wrote HasTold refusals old new bytes r
-wrote_long H n old new bytes r is long = rw is (record { ok = tt; err = inl (long, refl) })
-
--- After the first part was written, the second was.
-pub wrote_more : {W X : Type 0} (HasTold : W → List ℕ → Type 0) (refusals : W → ℕ) (old mid new : W) (a b : List ℕ) (r : Result X Error) → ((m : List ℕ) → HasTold old m → HasTold mid (m ++ a)) → refusals old ≤ refusals mid → length (a ++ b) < 2 ^ 32 → Wrote HasTold refusals mid new b r → Wrote HasTold refusals old new (a ++ b) r
-wrote_more H n old mid new a b (Ok x) first count fits w = record {
-  ok = (fits, λ m told. rw (← append_assoc m a b) (w.ok.1 (m ++ a) (first m told)));
-  err = tt;
-}
-wrote_more H n old mid new a b (Err e) first count fits w = record {
-  ok = tt;
-  err = elim w.err [
-    | inl long ↦ let l : 2 ^ 32 ≤ length b = long.0 in absurd (omega (arith, length-append a b))
-    | inr refused ↦ let rose : Rose (n mid) (n new) = refused.1 in inr (fits, omega arith)
-  ];
-}
-
--- A refusal of a first part is one of the whole.
-pub wrote_refused : {W X : Type 0} (HasTold : W → List ℕ → Type 0) (refusals : W → ℕ) (old new : W) (bytes : List ℕ) (r : Result X Error) (e : Error) → r ≡ Err e → length bytes < 2 ^ 32 → Rose (refusals old) (refusals new) → Wrote HasTold refusals old new bytes r
-wrote_refused H n old new bytes r e is fits refused = rw is (record { ok = tt; err = inr (fits, refused) })
-
 pub small_len : (tag : ℕ) (content : List ℕ) (n : ℕ) → n ≡ length content → n < 4294967290 → length (encode tag content) < 2 ^ 32
 small_len tag content n e h = small_fits tag content (omega arith)
 
 -- A header and then the content are the value.
-pub wrote_value : {W X : Type 0} (HasTold : W → List ℕ → Type 0) (refusals : W → ℕ) (old mid new : W) (tag : ℕ) (content header : List ℕ) (r : Result X Error) → header ≡ tag ∷ [] ++ length_bytes (length content) → ((m : List ℕ) → HasTold old m → HasTold mid (m ++ header)) → refusals old ≤ refusals mid → length (encode tag content) < 2 ^ 32 → Wrote HasTold refusals mid new content r → Wrote HasTold refusals old new (encode tag content) r
-wrote_value H n old mid new tag content header r is first count fits w =
+pub wrote_value : {W X : Type 0} (HasTold : W → List ℕ → Type 0) (refusals : W → ℕ) (last_refusal : W → Option Error) (old mid new : W) (tag : ℕ) (content header : List ℕ) (r : Result X Error) → header ≡ tag ∷ [] ++ length_bytes (length content) → ((m : List ℕ) → HasTold old m → HasTold mid (m ++ header)) → refusals old ≤ refusals mid → length (encode tag content) < 2 ^ 32 → Wrote HasTold refusals last_refusal mid new content r → Wrote HasTold refusals last_refusal old new (encode tag content) r
+wrote_value H n last old mid new tag content header r is first count fits w =
     let parts : encode tag content ≡ header ++ content = encode_parts tag content ∙ ap (λ (x : List ℕ). x ++ content) (sym is) in
     let fits' : length (header ++ content) < 2 ^ 32 = rw (← parts) fits in
-    rw parts (wrote_more H n old mid new header content r first count fits' w)
+    rw parts (wrote_behind header first count w fits')

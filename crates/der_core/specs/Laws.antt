@@ -1,10 +1,29 @@
 -- What is read is what is written, for values of any tag and of one tag.
 use Rattle.std.specs.Prelude.{◌≡◌, ℕ, List, [], ◌∷◌, ◌++◌, ◌==◌, ◌<◌, ◌≤◌, ◌^◌, length, refl, true}
-use Rattle.std.proofs.Common.{ap, ◌∙◌, sym, subst, get_or, length-append}
+use Rattle.std.proofs.Common.{◌+◌, ap, ◌∙◌, sym, subst, get_or, append_assoc, length-append, arith}
 use Rattle.std.proofs.lemmas.Bool.{eq-eqb}
 use Rattle.std.proofs.Math.Nat.{le-add_left, lt_of_le_of_lt}
 use Rattle.der_core.specs.Der.{length_bytes, encode}
+use Rattle.der_core.specs.LengthLaws.{length_bytes_le}
 use Rattle.der_core.specs.Decode.{ReadsTagged, ReadsAny}
+
+-- The tag, the bytes of the length and the content.
+pub length_encode : (tag : ℕ) (content : List ℕ) → length (encode tag content) ≡ 1 + length (length_bytes (length content)) + length content
+unfolding encode
+length_encode tag content = simp (length-append) (omega arith)
+
+-- An encoding and what follows it, without parentheses.
+pub encode_append : (tag : ℕ) (content rest : List ℕ) → encode tag content ++ rest ≡ tag ∷ (length_bytes (length content) ++ (content ++ rest))
+unfolding encode
+encode_append tag content rest = ap (λ (x : List ℕ). tag ∷ x) (append_assoc (length_bytes (length content)) content rest)
+
+-- A longer content has no shorter encoding, whatever the tags are.
+pub encode_le : (t u : ℕ) (a b : List ℕ) → length a ≤ length b → length (encode t a) ≤ length (encode u b)
+encode_le t u a b le =
+    let bytes = length_bytes_le (length a) (length b) le in
+    let whole = length_encode t a in
+    let whole' = length_encode u b in
+    omega arith
 
 -- A content is no longer than its encoding.
 pub content_fits : (tag : ℕ) (content : List ℕ) → length (encode tag content) < 2 ^ 32 → length content < 2 ^ 32

@@ -9,9 +9,13 @@ pub mod Error
 pub mod Header
 pub mod Integer
 pub mod Laws
+pub mod LengthLaws
 pub mod ObjectIdentifier
 pub mod Oid
 pub mod Order
 pub mod Sequence
+pub mod SequenceLaws
 pub mod Tag
 pub mod Tags
+pub mod ValueLaws
+pub mod Writing

@@ -29,6 +29,7 @@ impl<'a> AnyRef<'a> {
     ghost use Rattle.der_core.specs.Any.{plain_ref, plain_any};
     ghost use Rattle.der_core.specs.Decode.{DecodedAs};
     ghost use Rattle.der_core.specs.Tag.{byte_of};
+    ghost use Rattle.der_core.specs.Tags.{null_tag};
 
     /// A value of this tag and content. One of nearly 2^32 bytes can be made, but not written: its header counts there.
     pub fn new(tag: Tag, value: &'a [u8]) -> Result<AnyRef<'a>, Error>
@@ -65,7 +66,7 @@ impl<'a> AnyRef<'a> {
 
     /// Whether it is NULL.
     pub fn is_null(&self) -> bool
-        ensures { IsTrue result ↔ (plain_ref self.now ≡ record { tag = 5; content = [] }) }
+        ensures { IsTrue result ↔ (plain_ref self.now ≡ record { tag = null_tag; content = [] }) }
     {
         self.tag.byte() == Tag::NULL && self.value.is_empty()
     }
@@ -89,13 +90,10 @@ impl<'a> AnyRef<'a> {
     pub fn ref_to_owned(&self, alloc: Global) -> Result<Any, Error>
         ensures { MatchResult result (λ v. plain_any v ≡ plain_ref self.now) (λ e. e ≡ Error.OutOfMemory) }
     {
-        match Vec::from_slice(alloc, self.value) {
-            Ok(value) => Ok(Any {
-                tag: self.tag,
-                value,
-            }),
-            Err(_) => Err(Error::OutOfMemory),
-        }
+        Ok(Any {
+            tag: self.tag,
+            value: Vec::from_slice(alloc, self.value)?,
+        })
     }
 }
 
@@ -132,11 +130,11 @@ impl<'a> Encode for AnyRef<'a> {
     ghost one_value = { λ v fits. encode_one_value v.tag.byte v.value.now v.tag.valid fits };
 
     fn encoded_len(&self) -> Result<Length, Error> {
-        tagged_len(self.tag.byte(), self)
+        tagged_len(self)
     }
 
     fn encode<W: Writer>(&self, writer: &mut W) -> Result<(), Error> {
-        encode_tagged(self.tag.byte(), self, writer)
+        encode_tagged(self.tag, self, writer)
     }
 }
 
@@ -167,15 +165,13 @@ impl Any {
     ghost use Rattle.der_core.specs.Any.{plain_ref, plain_any, ReadsPlain, EncodedFrom};
     ghost use Rattle.der_core.specs.Decode.{FromDerOwned, DecodedAs};
     ghost use Rattle.der_core.specs.Tag.{byte_of};
+    ghost use Rattle.der_core.specs.Tags.{null_tag};
 
     /// Reads one value of any tag and copies it.
     pub fn from_der(alloc: Global, bytes: &[u8]) -> Result<Any, Error>
         ensures { FromDerOwned plain_any ReadsPlain bytes.now result }
     {
-        match AnyRef::from_der(bytes) {
-            Ok(value) => value.ref_to_owned(alloc),
-            Err(error) => Err(error),
-        }
+        AnyRef::from_der(bytes)?.ref_to_owned(alloc)
     }
 
     /// The value that another type's value is written as.
@@ -217,7 +213,7 @@ impl Any {
 
     /// Whether it is NULL.
     pub fn is_null(&self) -> bool
-        ensures { IsTrue result ↔ (plain_any self.now ≡ record { tag = 5; content = [] }) }
+        ensures { IsTrue result ↔ (plain_any self.now ≡ record { tag = null_tag; content = [] }) }
     {
         self.owned_to_ref().is_null()
     }
@@ -227,11 +223,11 @@ impl EncodeValue for Any {
     ghost content = { λ v. v.value.items };
 
     fn value_len(&self) -> Result<Length, Error> {
-        Ok(Length::new(self.value.len() as u32))
+        self.owned_to_ref().value_len()
     }
 
     fn encode_value<W: Writer>(&self, writer: &mut W) -> Result<(), Error> {
-        writer.write(&self.value)
+        self.owned_to_ref().encode_value(writer)
     }
 }
 
@@ -244,10 +240,10 @@ impl Encode for Any {
     ghost one_value = { λ v fits. encode_one_value v.tag.byte v.value.items v.tag.valid fits };
 
     fn encoded_len(&self) -> Result<Length, Error> {
-        tagged_len(self.tag.byte(), self)
+        tagged_len(self)
     }
 
     fn encode<W: Writer>(&self, writer: &mut W) -> Result<(), Error> {
-        encode_tagged(self.tag.byte(), self, writer)
+        encode_tagged(self.tag, self, writer)
     }
 }

@@ -2,7 +2,8 @@
 ghost use Rattle.std.specs.Prelude.{◌≡◌, ◌↔◌, IsTrue, ◌++◌, ◌<◌, ◌^◌, ℕ, List, [], ◌∷◌, length, IfOk, IfErr, OnErr, IfSome, IfNone, option_map};
 ghost use Rattle.der_core.specs.Any.{plain_ref, der_of};
 ghost use Rattle.der_core.specs.Cursor.{NextTag};
-ghost use Rattle.der_core.specs.Der.{IsValue};
+ghost use Rattle.der_core.specs.Der.{IsValue, encode};
+ghost use Rattle.der_core.specs.Tag.{byte_of};
 ghost use Rattle.der_core.specs.Header.{read_value};
 
 use crate::header::{first_byte, length_at, tag_at};
@@ -45,6 +46,16 @@ impl<'a> Cursor<'a> {
         self.rest
     }
 
+    /// Takes all bytes that are left.
+    pub fn take_rest(&mut self) -> &'a [u8]
+        ensures value { result.now ≡ self.old }
+        ensures taken { self.new ≡ [] }
+    {
+        let rest = self.rest;
+        self.rest = &[];
+        rest
+    }
+
     /// The tag of the next value, which stays there.
     pub fn peek_tag(&self) -> Option<Tag>
         ensures { NextTag self.now result }
@@ -67,6 +78,19 @@ impl<'a> Cursor<'a> {
         self.rest = rest;
         Ok(value)
     }
+}
+
+/// The content of the value of this tag at the front, and what follows it. None where a value of another tag stands there, or no value.
+pub fn field_at(tag: Tag, bytes: &[u8]) -> Option<(&[u8], &[u8])>
+    ensures value { IfSome result (λ field. bytes.now ≡ encode (byte_of tag) field.0.now ++ field.1.now) }
+    ensures fits { IfSome result (λ field. length (encode (byte_of tag) field.0.now) < 2 ^ 32) }
+    ensures none { IfNone result ((content rest : List ℕ) → length (encode (byte_of tag) content) < 2 ^ 32 → bytes.now ≡ encode (byte_of tag) content ++ rest → ⊥) }
+{
+    let (value, rest) = any_at(bytes)?;
+    if value.tag().byte() != tag.byte() {
+        return None;
+    }
+    Some((value.value(), rest))
 }
 
 /// The value at the front, and what follows it.

@@ -1,5 +1,5 @@
 //! Reading.
-ghost use Rattle.std.specs.Prelude.{◌≡◌, ◌++◌, ℕ, List, [], length, IfOk, IfErr, OnErr, ◌<◌, ◌^◌, ◌∷◌, ◌==◌, Bool, true};
+ghost use Rattle.std.specs.Prelude.{◌≡◌, ◌++◌, ℕ, List, [], length, IfOk, IfErr, OnOk, OnErr, ◌<◌, ◌^◌, ◌∷◌, ◌==◌, Bool, true};
 ghost use Rattle.der_core.specs.Decode.{Front, NoFront, FromDer, ReadsTagged, ReadsTagged-one_value};
 ghost use Rattle.der_core.specs.Der.{IsTag, IsValue};
 ghost use Rattle.der_core.specs.Laws.{tagged_reads_encoding, tagged_encoding_reads, tagged_begins};
@@ -16,7 +16,7 @@ pub trait FixedTag {
 
     const TAG: u8;
 
-    /// The tag, as `TAG` gives it. Generic code takes this call, since contracts see it.
+    /// The tag, for generic code: contracts see what this call answers, and nothing of `TAG`. An implementation answers `Self::TAG`, which ties the two; where its block has type parameters, whose constants the toolchain does not evaluate, both name one constant of `Tag`.
     fn tag_byte() -> u8
         ensures { result ≡ tag };
 }
@@ -25,11 +25,13 @@ pub trait FixedTag {
 pub trait DecodeValue<'a>: Sized + Drop {
     ghost HasContent: { List ℕ → Self → Type 0 };
 
-    /// Reads all that is left, which is the content.
+    /// Takes all that is left, which is the content (`Cursor::take_rest`). Where it is the content of no value, it stays there.
     fn decode_value(cursor: &mut Cursor<'a>) -> Result<Self, Error>
         ensures value { IfOk result (λ v. HasContent cursor.old v) }
         ensures malformed { IfErr result (λ e. e ≡ Error.Malformed) }
-        ensures none { OnErr result ((v : Self) → HasContent cursor.old v → ⊥) };
+        ensures none { OnErr result ((v : Self) → HasContent cursor.old v → ⊥) }
+        ensures taken { OnOk result (cursor.new ≡ []) }
+        ensures kept { OnErr result (cursor.new ≡ cursor.old) };
 }
 
 /// What is read with its tag and length.
@@ -99,9 +101,8 @@ impl<'a, T: DecodeValue<'a> + FixedTag> Decode<'a> for T {
     ghost one_value = { λ b v r. ReadsTagged-one_value T.tag T.HasContent b v T.tag_is_valid r };
 
     fn decode(cursor: &mut Cursor<'a>) -> Result<Self, Error> {
-        let (any, rest) = match any_at(cursor.rest()) {
-            Some(found) => found,
-            None => return Err(Error::Malformed),
+        let Some((any, rest)) = any_at(cursor.rest()) else {
+            return Err(Error::Malformed);
         };
         if any.tag().byte() != T::tag_byte() {
             return Err(Error::Malformed);

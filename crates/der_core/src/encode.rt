@@ -1,10 +1,11 @@
 //! Writing.
 ghost use Rattle.std.specs.Prelude.{◌≡◌, ◌++◌, ◌+◌, ◌∷◌, [], ◌<◌, ◌≤◌, ◌^◌, ℕ, List, length, take, IfOk, MatchResult};
 ghost use Rattle.der_core.specs.Der.{IsValue, encode, length_bytes};
+ghost use Rattle.der_core.specs.Tag.{byte_of};
 ghost use Rattle.der_core.specs.Encode.{Wrote, LengthOf, ToDer, encode_one_value};
 
 use crate::writer::VecWriter;
-use crate::{Error, FixedTag, Length, Writer};
+use crate::{Error, FixedTag, Length, Tag, Writer};
 use std::alloc::Global;
 
 /// What is written as the content of a value.
@@ -15,9 +16,9 @@ pub trait EncodeValue {
     fn value_len(&self) -> Result<Length, Error>
         ensures { LengthOf (content self.now) result };
 
-    /// Writes the content.
+    /// Writes the content. A refusal of the writer is passed on as it was, and after any error the writer was given a first part of the content at most.
     fn encode_value<W: Writer>(&self, writer: &mut W) -> Result<(), Error>
-        ensures wrote { Wrote W.HasTold W.refusals writer.old writer.new (content self.now) result }
+        ensures wrote { Wrote W.HasTold W.refusals W.last_refusal writer.old writer.new (content self.now) result }
         ensures count { W.refusals writer.old ≤ W.refusals writer.new }
         ensures same_borrow { W.borrow writer.new ≡ W.borrow writer.old };
 }
@@ -30,9 +31,9 @@ pub trait Encode {
     fn encoded_len(&self) -> Result<Length, Error>
         ensures { LengthOf (encoding self.now) result };
 
-    /// Writes the encoding. A refusal of the writer is passed on as it was.
+    /// Writes the encoding. A refusal of the writer is passed on as it was, and after any error the writer was given a first part of the encoding at most.
     fn encode<W: Writer>(&self, writer: &mut W) -> Result<(), Error>
-        ensures wrote { Wrote W.HasTold W.refusals writer.old writer.new (encoding self.now) result }
+        ensures wrote { Wrote W.HasTold W.refusals W.last_refusal writer.old writer.new (encoding self.now) result }
         ensures count { W.refusals writer.old ≤ W.refusals writer.new }
         ensures same_borrow { W.borrow writer.new ≡ W.borrow writer.old };
 
@@ -45,15 +46,13 @@ pub trait Encode {
     {
         let _ = self.encoded_len()?;
         let mut writer = VecWriter::new(alloc);
-        match self.encode(&mut writer) {
-            Ok(()) => Ok(writer.into_vec()),
-            Err(_) => Err(Error::OutOfMemory),
-        }
+        self.encode(&mut writer)?;
+        Ok(writer.into_vec())
     }
 }
 
 /// How many bytes the tag and the length take.
-#[tactic(auto, using(crate::proofs::Lengths::length_bytes_1, crate::proofs::Lengths::length_bytes_2, crate::proofs::Lengths::length_bytes_3, crate::proofs::Lengths::length_bytes_4, crate::proofs::Lengths::length_bytes_5))]
+#[tactic(auto, using(crate::specs::LengthLaws::length_bytes_1, crate::specs::LengthLaws::length_bytes_2, crate::specs::LengthLaws::length_bytes_3, crate::specs::LengthLaws::length_bytes_4, crate::specs::LengthLaws::length_bytes_5))]
 fn header_len(n: u32) -> u32
     ensures value { result ≡ 1 + length (length_bytes n) }
     ensures small { result ≤ 6 }
@@ -72,7 +71,7 @@ fn header_len(n: u32) -> u32
 }
 
 /// The tag and the length, which are the first bytes of the array, and how many they are.
-#[tactic(auto, using(crate::proofs::Lengths::length_bytes_1, crate::proofs::Lengths::length_bytes_2, crate::proofs::Lengths::length_bytes_3, crate::proofs::Lengths::length_bytes_4, crate::proofs::Lengths::length_bytes_5))]
+#[tactic(auto, using(crate::specs::LengthLaws::length_bytes_1, crate::specs::LengthLaws::length_bytes_2, crate::specs::LengthLaws::length_bytes_3, crate::specs::LengthLaws::length_bytes_4, crate::specs::LengthLaws::length_bytes_5))]
 fn header(tag: u8, n: u32) -> ([u8; 6], usize)
     ensures bytes { take result.1 result.0 ≡ tag ∷ [] ++ length_bytes n }
     ensures len { result.1 ≤ 6 }
@@ -111,35 +110,34 @@ impl<T: EncodeValue + FixedTag> Encode for T {
     ghost one_value = { λ v fits. encode_one_value T.tag (T.content v) T.tag_is_valid fits };
 
     fn encoded_len(&self) -> Result<Length, Error> {
-        tagged_len(T::tag_byte(), self)
+        tagged_len(self)
     }
 
     fn encode<W: Writer>(&self, writer: &mut W) -> Result<(), Error> {
-        encode_tagged(T::tag_byte(), self, writer)
+        encode_tagged(Tag::from_valid(T::tag_byte()), self, writer)
     }
 }
 
-/// Writes the value of a tag and a content.
+/// Writes the value of this tag whose content is that of another value, as an implicit tag asks.
 pub fn encode_tagged<T: EncodeValue, W: Writer>(
-    tag: u8,
+    tag: Tag,
     value: &T,
     writer: &mut W,
 ) -> Result<(), Error>
-    ensures wrote { Wrote W.HasTold W.refusals writer.old writer.new (encode tag (T.content value.now)) result }
+    ensures wrote { Wrote W.HasTold W.refusals W.last_refusal writer.old writer.new (encode (byte_of tag) (T.content value.now)) result }
     ensures count { W.refusals writer.old ≤ W.refusals writer.new }
     ensures same_borrow { W.borrow writer.new ≡ W.borrow writer.old }
 {
     let n = value.value_len()?;
     let _ = with_header(n)?;
-    let (bytes, len) = header(tag, n.get());
+    let (bytes, len) = header(tag.byte(), n.get());
     writer.write(&bytes[..len])?;
     value.encode_value(writer)
 }
 
-/// The length of the value of a tag and a content.
-pub fn tagged_len<T: EncodeValue>(tag: u8, value: &T) -> Result<Length, Error>
-    ensures { LengthOf (encode tag (T.content value.now)) result }
+/// The length of a value of that content, header included. It is the same for each tag.
+pub fn tagged_len<T: EncodeValue>(value: &T) -> Result<Length, Error>
+    ensures { (tag : ℕ) → LengthOf (encode tag (T.content value.now)) result }
 {
-    let _ = tag;
     with_header(value.value_len()?)
 }

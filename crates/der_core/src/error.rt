@@ -1,5 +1,9 @@
 //! Why a value was not read, made or written.
+ghost use Rattle.std.specs.Prelude.{◌≡◌};
+ghost use Rattle.der_core.specs.declared.error.Error.TheVariants.{OutOfMemory};
+
 use crate::{ObjectIdentifier, Tag};
+use std::alloc::AllocError;
 use std::{error, fmt};
 
 /// Why a value was not read, made or written.
@@ -52,6 +56,14 @@ pub enum Error {
 }
 
 impl error::Error for Error {}
+
+impl From<AllocError> for Error {
+    ghost from_gives = { λ _ error. error ≡ OutOfMemory };
+
+    fn from(_error: AllocError) -> Error {
+        Error::OutOfMemory
+    }
+}
 
 impl fmt::Display for Error {
     ghost use Rattle.der_core.specs.Error.{error_text};

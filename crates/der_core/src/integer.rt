@@ -2,13 +2,13 @@
 ghost use Rattle.std.specs.Prelude.{◌≡◌, ◌<◌};
 ghost use Rattle.der_core.specs.Integer.{integer_content};
 ghost use Rattle.der_core.specs.Order.{content_order};
-ghost use Rattle.der_core.specs.Tags.{tag_2};
+ghost use Rattle.der_core.specs.Tags.{integer_tag, tag_2};
 
 use crate::{Cursor, DecodeValue, EncodeValue, Error, FixedTag, Length, Tag, ValueOrd, Writer};
 use std::cmp::Ordering;
 
 impl FixedTag for u8 {
-    ghost tag = { 2 };
+    ghost tag = { integer_tag };
 
     ghost tag_is_valid = { tag_2 };
 
@@ -23,11 +23,13 @@ impl<'a> DecodeValue<'a> for u8 {
     ghost HasContent = { λ b n. (b ≡ integer_content n) × (n < 256) };
 
     fn decode_value(cursor: &mut Cursor<'a>) -> Result<Self, Error> {
-        match cursor.rest() {
-            [n] if *n < 128 => Ok(*n),
-            [0, n] if *n >= 128 => Ok(*n),
-            _ => Err(Error::Malformed),
-        }
+        let n = match cursor.rest() {
+            [n] if *n < 128 => *n,
+            [0, n] if *n >= 128 => *n,
+            _ => return Err(Error::Malformed),
+        };
+        cursor.take_rest();
+        Ok(n)
     }
 }
 

@@ -1,4 +1,18 @@
 //! The base of DER (X.690): tags, lengths, values of any tag, object identifiers, a reader over borrowed bytes, and the traits by which a type says what it is read from and written as.
+//!
+//! ```text
+//! let ed25519 = ObjectIdentifier::new("1.3.101.112")?;
+//! let encoding = ed25519.to_der(alloc)?;
+//! assert_eq!(encoding.as_slice(), [6, 3, 0x2b, 0x65, 0x70]);
+//!
+//! let mut cursor = Cursor::new(&encoding);
+//! let value = cursor.read_value()?;
+//! assert_eq!(value.tag().byte(), Tag::OID);
+//! assert_eq!(value.decode_as::<ObjectIdentifier>()?, ed25519);
+//! assert!(cursor.is_finished());
+//! ```
+//!
+//! `der_lists` has a type of three fields, read and written, as an example of a type of one's own.
 #![tactic(auto)]
 
 mod any;
@@ -8,19 +22,19 @@ mod encode;
 mod error;
 mod header;
 mod integer;
-mod laws;
+pub mod laws;
 mod length;
 mod oid;
 mod order;
 mod tag;
+mod threads;
 mod writer;
 
 pub use any::{Any, AnyRef};
-pub use cursor::Cursor;
+pub use cursor::{Cursor, field_at};
 pub use decode::{Choice, Decode, DecodeValue, FixedTag, Lawful, LawfulValue};
 pub use encode::{Encode, EncodeValue, encode_tagged, tagged_len};
 pub use error::Error;
-pub use laws::{encoding_has_one_value, no_encoding_begins_another, no_value_begins_another};
 pub use length::Length;
 pub use oid::{Arcs, ObjectIdentifier};
 pub use order::{DerOrd, ValueOrd};

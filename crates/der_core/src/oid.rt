@@ -15,7 +15,7 @@ use subidentifier::are_subidentifiers;
 use text::content_of;
 
 /// An object identifier, by its content bytes (X.690, 8.19).
-#[derive(Clone, Copy, Debug)]
+#[derive(Clone, Copy)]
 pub struct ObjectIdentifier {
     bytes: [u8; 39],
     len: u8,
@@ -37,10 +37,10 @@ impl ObjectIdentifier {
         let Some(content) = content_of(text.as_bytes()) else {
             return Err(Error::OidMalformed);
         };
-        match ObjectIdentifier::from_bytes(content.as_bytes()) {
-            Ok(oid) => Ok(oid),
-            Err(_) => Err(Error::OidMalformed),
-        }
+        let Ok(oid) = ObjectIdentifier::from_bytes(content.as_bytes()) else {
+            unreachable!()
+        };
+        Ok(oid)
     }
 
     /// Takes the content, which is what follows tag and length.
@@ -98,6 +98,18 @@ impl fmt::Display for ObjectIdentifier {
     }
 }
 
+impl fmt::Debug for ObjectIdentifier {
+    ghost use Rattle.std.specs.Prelude.{Some};
+    ghost use Rattle.der_core.specs.ObjectIdentifier.{oid_debug};
+
+    ghost debug_output = { λ v. Some (oid_debug v) };
+
+    fn fmt<W: fmt::Write>(&self, f: &mut fmt::Formatter<W>) -> fmt::Result {
+        let oid = *self;
+        write!(f, "ObjectIdentifier({oid})")
+    }
+}
+
 ghost use Rattle.std.specs.Prelude.{◌↔◌, IsTrue};
 ghost use Rattle.der_core.specs.Oid.{IsOidContent};
 
@@ -109,16 +121,16 @@ fn is_content(bytes: &[u8]) -> bool
 
 impl FixedTag for ObjectIdentifier {
     ghost use Rattle.std.specs.Prelude.{◌≡◌};
-    ghost use Rattle.der_core.specs.Tags.{tag_6};
+    ghost use Rattle.der_core.specs.Tags.{oid_tag, tag_6};
 
-    ghost tag = { 6 };
+    ghost tag = { oid_tag };
 
     ghost tag_is_valid = { tag_6 };
 
     const TAG: u8 = Tag::OID;
 
     fn tag_byte() -> u8
-        ensures { result ≡ 6 }
+        ensures { result ≡ oid_tag }
     {
         Self::TAG
     }
@@ -131,7 +143,9 @@ impl<'a> DecodeValue<'a> for ObjectIdentifier {
     ghost HasContent = { λ b v. oid_content v ≡ b };
 
     fn decode_value(cursor: &mut Cursor<'a>) -> Result<Self, Error> {
-        ObjectIdentifier::from_bytes(cursor.rest())
+        let oid = ObjectIdentifier::from_bytes(cursor.rest())?;
+        cursor.take_rest();
+        Ok(oid)
     }
 }
 

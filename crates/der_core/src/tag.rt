@@ -12,7 +12,6 @@ pub struct Tag {
 impl Tag {
     ghost use Rattle.std.specs.Prelude.{◌≡◌, MatchOption, option_map, if◌then◌else◌, Some, None};
     ghost use Rattle.der_core.specs.Der.{IsTag};
-    ghost use Rattle.der_core.specs.Header.{is_tag};
     ghost use Rattle.der_core.specs.Tag.{byte_of};
 
     /// The tag byte of an integer.
@@ -47,7 +46,8 @@ impl Tag {
         }
     }
 
-    pub(crate) fn from_valid(byte: u8) -> Tag
+    /// A byte that is known to be a tag, as one of the constants; `new` is the test.
+    pub fn from_valid(byte: u8) -> Tag
         requires { IsTag byte }
         ensures { byte_of result ≡ byte }
     {

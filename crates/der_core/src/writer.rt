@@ -1,6 +1,8 @@
 //! What bytes are written to.
-ghost use Rattle.std.specs.Prelude.{◌≡◌, ◌++◌, ◌≤◌, ℕ, List, [], OnErr, is_ok, if◌then◌else◌};
-ghost use Rattle.identity_io.specs.Causes.{Rose};
+ghost use Rattle.std.specs.Prelude.{◌≡◌, ◌++◌, ◌≤◌, ℕ, List, [], Option as Maybe, Some, None, IfErr, is_ok, if◌then◌else◌};
+ghost use Rattle.der_core.specs.declared.error.Error.{Error as DerError};
+ghost use Rattle.der_core.specs.declared.error.Error.TheVariants as error;
+ghost use Rattle.der_core.specs.Encode.{Refused};
 
 use crate::Error;
 use std::alloc::Global;
@@ -13,6 +15,9 @@ pub trait Writer {
     // How often it refused.
     ghost refusals: { Self → ℕ };
 
+    // The error of its last refusal, where it refused.
+    ghost last_refusal: { Self → Maybe DerError } = { λ _. None };
+
     // The borrow that it writes through, where it has one.
     ghost borrow: { Self → ℕ } = { λ _. 0 };
 
@@ -21,7 +26,7 @@ pub trait Writer {
         ensures told { (m : List ℕ) → HasTold self.old m → HasTold self.new (if is_ok result then m ++ slice.now else m) }
         ensures count { refusals self.old ≤ refusals self.new }
         ensures same_borrow { borrow self.new ≡ borrow self.old }
-        ensures refused { OnErr result (Rose (refusals self.old) (refusals self.new)) };
+        ensures refused { IfErr result (Refused refusals last_refusal self.old self.new) };
 }
 
 /// A writer that keeps the bytes.
@@ -52,6 +57,8 @@ impl Writer for VecWriter {
     ghost HasTold = { λ w m. w.bytes.items ≡ m };
 
     ghost refusals = { λ w. w.refusals };
+
+    ghost last_refusal = { λ _. Some error.OutOfMemory };
 
     fn write(&mut self, slice: &[u8]) -> Result<(), Error> {
         if self.bytes.extend_from_slice(slice).is_ok() {

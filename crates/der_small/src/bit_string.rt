@@ -65,28 +65,25 @@ impl<'a> BitStringRef<'a> {
     pub fn ref_to_owned(&self, alloc: Global) -> Result<BitString, Error>
         ensures { MatchResult result (λ v. plain_bits v ≡ plain_bits_ref self.now) (λ e. e ≡ Error.OutOfMemory) }
     {
-        match Vec::from_slice(alloc, self.raw) {
-            Ok(raw) => Ok(BitString {
-                unused_bits: self.unused_bits,
-                raw,
-            }),
-            Err(_) => Err(Error::OutOfMemory),
-        }
+        Ok(BitString {
+            unused_bits: self.unused_bits,
+            raw: Vec::from_slice(alloc, self.raw)?,
+        })
     }
 }
 
 impl<'a> FixedTag for BitStringRef<'a> {
     ghost use Rattle.std.specs.Prelude.{◌≡◌};
-    ghost use Rattle.der_core.specs.Tags.{tag_3};
+    ghost use Rattle.der_core.specs.Tags.{bit_string_tag, tag_3};
 
-    ghost tag = { 3 };
+    ghost tag = { bit_string_tag };
 
     ghost tag_is_valid = { tag_3 };
 
     const TAG: u8 = Tag::BIT_STRING;
 
     fn tag_byte() -> u8
-        ensures { result ≡ 3 }
+        ensures { result ≡ bit_string_tag }
     {
         Self::TAG
     }
@@ -98,14 +95,14 @@ impl<'a> DecodeValue<'a> for BitStringRef<'a> {
     ghost HasContent = { λ b v. b ≡ v.unused_bits ∷ v.raw.now };
 
     fn decode_value(cursor: &mut Cursor<'a>) -> Result<Self, Error> {
-        let bytes = cursor.rest();
-        let Some((first, raw)) = bytes.split_first() else {
+        let Some((unused_bits, raw)) = cursor.rest().split_first() else {
             return Err(Error::Malformed);
         };
-        match BitStringRef::new(*first, raw) {
-            Ok(value) => Ok(value),
-            Err(_) => Err(Error::Malformed),
-        }
+        let Ok(value) = BitStringRef::new(*unused_bits, raw) else {
+            return Err(Error::Malformed);
+        };
+        cursor.take_rest();
+        Ok(value)
     }
 }
 
@@ -146,17 +143,15 @@ impl<'a> ValueOrd for BitStringRef<'a> {
 impl BitString {
     ghost use Rattle.std.specs.Prelude.{◌≡◌};
     ghost use Rattle.der_core.specs.Decode.{FromDerOwned, ReadsTagged};
+    ghost use Rattle.der_core.specs.Tags.{bit_string_tag};
     ghost use Rattle.der_small.specs.Bits.{BitsContent};
     ghost use Rattle.der_small.specs.BitString.{plain_bits_ref, plain_bits};
 
     /// Reads one bit string and copies it.
     pub fn from_der(alloc: Global, bytes: &[u8]) -> Result<BitString, Error>
-        ensures { FromDerOwned plain_bits (ReadsTagged 3 BitsContent) bytes.now result }
+        ensures { FromDerOwned plain_bits (ReadsTagged bit_string_tag BitsContent) bytes.now result }
     {
-        match BitStringRef::from_der(bytes) {
-            Ok(value) => value.ref_to_owned(alloc),
-            Err(error) => Err(error),
-        }
+        BitStringRef::from_der(bytes)?.ref_to_owned(alloc)
     }
 
     /// How many low bits of the last octet are no part of the string.
@@ -185,9 +180,9 @@ impl BitString {
 }
 
 impl FixedTag for BitString {
-    ghost use Rattle.der_core.specs.Tags.{tag_3};
+    ghost use Rattle.der_core.specs.Tags.{bit_string_tag, tag_3};
 
-    ghost tag = { 3 };
+    ghost tag = { bit_string_tag };
 
     ghost tag_is_valid = { tag_3 };
 
@@ -204,12 +199,11 @@ impl EncodeValue for BitString {
     ghost content = { λ v. v.unused_bits ∷ v.raw.items };
 
     fn value_len(&self) -> Result<Length, Error> {
-        Ok(Length::new(self.raw.len() as u32 + 1))
+        self.owned_to_ref().value_len()
     }
 
     fn encode_value<W: Writer>(&self, writer: &mut W) -> Result<(), Error> {
-        writer.write(&[self.unused_bits])?;
-        writer.write(&self.raw)
+        self.owned_to_ref().encode_value(writer)
     }
 }
 

@@ -27,13 +27,10 @@ impl Document {
     pub fn from_der(alloc: Global, bytes: &[u8]) -> Result<Document, Error>
         ensures { FromDerOwned document_bytes IsOneValue bytes.now result }
     {
-        match AnyRef::from_der(bytes) {
-            Ok(_) => match Vec::from_slice(alloc, bytes) {
-                Ok(bytes) => Ok(Document { bytes }),
-                Err(_) => Err(Error::OutOfMemory),
-            },
-            Err(error) => Err(error),
-        }
+        let _ = AnyRef::from_der(bytes)?;
+        Ok(Document {
+            bytes: Vec::from_slice(alloc, bytes)?,
+        })
     }
 
     /// The whole encoding.
@@ -61,8 +58,9 @@ impl Document {
     pub fn encode_msg<T: Encode>(alloc: Global, value: &T) -> Result<Document, Error>
         ensures { EncodedAs document_bytes (T.encoding value.now) result }
     {
-        let bytes = value.to_der(alloc)?;
-        Ok(Document { bytes })
+        Ok(Document {
+            bytes: value.to_der(alloc)?,
+        })
     }
 
     /// Reads a file of at most 16 MiB that holds exactly one value.
@@ -75,10 +73,8 @@ impl Document {
         ensures kept { D.files disk.new ≡ D.files disk.old }
         ensures cause { FileCause (D.faults disk.old) (D.faults disk.new) result }
     {
-        match read_bytes(alloc, disk, path) {
-            Ok(bytes) => Document::from_der(alloc, &bytes),
-            Err(error) => Err(error),
-        }
+        let bytes = read_bytes(alloc, disk, path)?;
+        Document::from_der(alloc, &bytes)
     }
 
     /// Writes the bytes to a file.

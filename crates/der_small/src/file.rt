@@ -25,10 +25,7 @@ pub(crate) fn read_bytes<D: Disk>(alloc: Global, disk: &mut D, path: &str) -> Re
     ensures kept { D.files disk.new ≡ D.files disk.old }
     ensures cause { FileCause (D.faults disk.old) (D.faults disk.new) result }
 {
-    match disk.read_file(alloc, path) {
-        Ok(bytes) => Ok(bytes),
-        Err(error) => Err(file_error(error)),
-    }
+    disk.read_file(alloc, path).map_err(file_error)
 }
 
 /// Writes the bytes of a file.
@@ -37,8 +34,5 @@ pub(crate) fn write_bytes<D: Disk>(disk: &mut D, path: &str, bytes: &[u8]) -> Re
     ensures answers { IfErr result (λ e. (e ≡ Error.FileFault) ⊎ (e ≡ Error.OutOfMemory)) }
     ensures cause { FileCause (D.faults disk.old) (D.faults disk.new) result }
 {
-    match disk.write_file(path, bytes) {
-        Ok(()) => Ok(()),
-        Err(error) => Err(file_error(error)),
-    }
+    disk.write_file(path, bytes).map_err(file_error)
 }

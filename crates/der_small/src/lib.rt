@@ -1,4 +1,15 @@
 //! Values in DER (X.690): bit strings, octet strings, texts, small integers, object identifiers and values of any tag, each in borrowed bytes and most with bytes of their own, the traits by which further types are read and written, and documents of one value with their files.
+//!
+//! ```text
+//! let text = Utf8Ref::new("a")?;
+//! let document = Document::encode_msg(alloc, &text)?;
+//! assert_eq!(document.as_bytes(), [0x0c, 1, 0x61]);
+//! assert_eq!(document.decode_msg::<Utf8Ref>()?, text);
+//!
+//! assert_eq!(OctetStringRef::from_der(document.as_bytes()), Err(Error::Malformed));
+//! document.write_der_file(&mut disk, "text.der")?;
+//! assert_eq!(Document::read_der_file(alloc, &mut disk, "text.der")?, document);
+//! ```
 #![tactic(auto)]
 
 mod bit_string;
@@ -6,14 +17,14 @@ mod document;
 mod file;
 mod octet_string;
 mod secret_document;
+mod threads;
 mod utf8;
 
 pub use bit_string::{BitString, BitStringRef};
 pub use der_core::{
     Any, AnyRef, Arcs, Choice, Cursor, Decode, DecodeValue, DerOrd, Encode, EncodeValue, Error,
     FixedTag, Lawful, LawfulValue, Length, ObjectIdentifier, Result, Tag, ValueOrd, Writer,
-    encode_tagged, encoding_has_one_value, no_encoding_begins_another, no_value_begins_another,
-    tagged_len,
+    encode_tagged, field_at, laws, tagged_len,
 };
 pub use document::Document;
 pub use octet_string::{OctetString, OctetStringRef};

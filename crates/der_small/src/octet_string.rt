@@ -49,25 +49,24 @@ impl<'a> OctetStringRef<'a> {
     pub fn ref_to_owned(&self, alloc: Global) -> Result<OctetString, Error>
         ensures { MatchResult result (λ v. octets v ≡ octets_ref self.now) (λ e. e ≡ Error.OutOfMemory) }
     {
-        match Vec::from_slice(alloc, self.bytes) {
-            Ok(bytes) => Ok(OctetString { bytes }),
-            Err(_) => Err(Error::OutOfMemory),
-        }
+        Ok(OctetString {
+            bytes: Vec::from_slice(alloc, self.bytes)?,
+        })
     }
 }
 
 impl FixedTag for OctetStringRef<'_> {
     ghost use Rattle.std.specs.Prelude.{◌≡◌};
-    ghost use Rattle.der_core.specs.Tags.{tag_4};
+    ghost use Rattle.der_core.specs.Tags.{octet_string_tag, tag_4};
 
-    ghost tag = { 4 };
+    ghost tag = { octet_string_tag };
 
     ghost tag_is_valid = { tag_4 };
 
     const TAG: u8 = Tag::OCTET_STRING;
 
     fn tag_byte() -> u8
-        ensures { result ≡ 4 }
+        ensures { result ≡ octet_string_tag }
     {
         Self::TAG
     }
@@ -79,10 +78,11 @@ impl<'a> DecodeValue<'a> for OctetStringRef<'a> {
     ghost HasContent = { λ b v. v.bytes.now ≡ b };
 
     fn decode_value(cursor: &mut Cursor<'a>) -> Result<Self, Error> {
-        match OctetStringRef::new(cursor.rest()) {
-            Ok(value) => Ok(value),
-            Err(_) => Err(Error::Malformed),
-        }
+        let Ok(value) = OctetStringRef::new(cursor.rest()) else {
+            return Err(Error::Malformed);
+        };
+        cursor.take_rest();
+        Ok(value)
     }
 }
 
@@ -120,16 +120,14 @@ impl<'a> ValueOrd for OctetStringRef<'a> {
 impl OctetString {
     ghost use Rattle.std.specs.Prelude.{◌≡◌};
     ghost use Rattle.der_core.specs.Decode.{FromDerOwned, ReadsTagged};
+    ghost use Rattle.der_core.specs.Tags.{octet_string_tag};
     ghost use Rattle.der_small.specs.OctetString.{octets_ref, octets};
 
     /// Reads one octet string and copies it.
     pub fn from_der(alloc: Global, bytes: &[u8]) -> Result<OctetString, Error>
-        ensures { FromDerOwned octets (ReadsTagged 4 (λ content octets. octets ≡ content)) bytes.now result }
+        ensures { FromDerOwned octets (ReadsTagged octet_string_tag (λ content octets. octets ≡ content)) bytes.now result }
     {
-        match OctetStringRef::from_der(bytes) {
-            Ok(value) => value.ref_to_owned(alloc),
-            Err(error) => Err(error),
-        }
+        OctetStringRef::from_der(bytes)?.ref_to_owned(alloc)
     }
 
     /// The octets.
@@ -148,9 +146,9 @@ impl OctetString {
 }
 
 impl FixedTag for OctetString {
-    ghost use Rattle.der_core.specs.Tags.{tag_4};
+    ghost use Rattle.der_core.specs.Tags.{octet_string_tag, tag_4};
 
-    ghost tag = { 4 };
+    ghost tag = { octet_string_tag };
 
     ghost tag_is_valid = { tag_4 };
 
@@ -165,11 +163,11 @@ impl EncodeValue for OctetString {
     ghost content = { λ v. v.bytes.items };
 
     fn value_len(&self) -> Result<Length, Error> {
-        Ok(Length::new(self.bytes.len() as u32))
+        self.owned_to_ref().value_len()
     }
 
     fn encode_value<W: Writer>(&self, writer: &mut W) -> Result<(), Error> {
-        writer.write(&self.bytes)
+        self.owned_to_ref().encode_value(writer)
     }
 }
 

@@ -1,9 +1,6 @@
 //! Documents of one value whose bytes are not shown.
-ghost use Rattle.std.specs.Prelude.{ℕ};
-ghost use Rattle.der_core.specs.Der.{IsValue};
-
-use crate::file::{read_bytes, write_bytes};
-use der_core::{AnyRef, Decode, Encode, Error};
+use crate::Document;
+use der_core::{Decode, Encode, Error};
 use identity_io::Disk;
 use std::alloc::Global;
 use std::fmt;
@@ -11,8 +8,7 @@ use std::fmt;
 /// The bytes of exactly one value of any tag, such as a private key, which `Debug` does not show.
 #[derive(Drop, PartialEq, Eq, PartialOrd, Ord, Hash)]
 pub struct SecretDocument {
-    bytes: Vec<u8>,
-    ghost one: { ∥ IsValue bytes.items ∥₁ },
+    document: Document,
 }
 
 impl SecretDocument {
@@ -28,42 +24,39 @@ impl SecretDocument {
     pub fn from_der(alloc: Global, bytes: &[u8]) -> Result<SecretDocument, Error>
         ensures { FromDerOwned secret_bytes IsOneValue bytes.now result }
     {
-        match AnyRef::from_der(bytes) {
-            Ok(_) => match Vec::from_slice(alloc, bytes) {
-                Ok(bytes) => Ok(SecretDocument { bytes }),
-                Err(_) => Err(Error::OutOfMemory),
-            },
-            Err(error) => Err(error),
-        }
+        Ok(SecretDocument {
+            document: Document::from_der(alloc, bytes)?,
+        })
     }
 
     /// The whole encoding, secret parts too.
     pub fn as_bytes(&self) -> &[u8]
         ensures { result.now ≡ secret_bytes self.now }
     {
-        &self.bytes
+        self.document.as_bytes()
     }
 
     /// How many bytes it has, header included.
     pub fn len(&self) -> usize
         ensures { result ≡ length (secret_bytes self.now) }
     {
-        self.bytes.len()
+        self.document.len()
     }
 
     /// Reads the bytes as a value of another type.
     pub fn decode_msg<'a, T: Decode<'a>>(&'a self) -> Result<T, Error>
         ensures { FromDer T.Reads (secret_bytes self.now) result }
     {
-        T::from_der(&self.bytes)
+        self.document.decode_msg()
     }
 
     /// The document that a value is written as.
     pub fn encode_msg<T: Encode>(alloc: Global, value: &T) -> Result<SecretDocument, Error>
         ensures { EncodedAs secret_bytes (T.encoding value.now) result }
     {
-        let bytes = value.to_der(alloc)?;
-        Ok(SecretDocument { bytes })
+        Ok(SecretDocument {
+            document: Document::encode_msg(alloc, value)?,
+        })
     }
 
     /// Reads a file of at most 16 MiB that holds exactly one value.
@@ -76,10 +69,9 @@ impl SecretDocument {
         ensures kept { D.files disk.new ≡ D.files disk.old }
         ensures cause { FileCause (D.faults disk.old) (D.faults disk.new) result }
     {
-        match read_bytes(alloc, disk, path) {
-            Ok(bytes) => SecretDocument::from_der(alloc, &bytes),
-            Err(error) => Err(error),
-        }
+        Ok(SecretDocument {
+            document: Document::read_der_file(alloc, disk, path)?,
+        })
     }
 
     /// Writes the bytes to a file.
@@ -88,7 +80,7 @@ impl SecretDocument {
         ensures answers { IfErr result (λ e. (e ≡ Error.FileFault) ⊎ (e ≡ Error.OutOfMemory)) }
         ensures cause { FileCause (D.faults disk.old) (D.faults disk.new) result }
     {
-        write_bytes(disk, path, &self.bytes)
+        self.document.write_der_file(disk, path)
     }
 }
 
@@ -100,7 +92,7 @@ impl fmt::Debug for SecretDocument {
     ghost debug_output = { λ v. Some (secret_debug (length (secret_bytes v))) };
 
     fn fmt<W: fmt::Write>(&self, f: &mut fmt::Formatter<W>) -> fmt::Result {
-        let len = self.bytes.len();
+        let len = self.document.len();
         write!(f, "SecretDocument {{ len: {len} }}")
     }
 }

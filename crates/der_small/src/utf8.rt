@@ -42,16 +42,16 @@ impl<'a> Utf8Ref<'a> {
 
 impl<'a> FixedTag for Utf8Ref<'a> {
     ghost use Rattle.std.specs.Prelude.{◌≡◌};
-    ghost use Rattle.der_core.specs.Tags.{tag_12};
+    ghost use Rattle.der_core.specs.Tags.{utf8_tag, tag_12};
 
-    ghost tag = { 12 };
+    ghost tag = { utf8_tag };
 
     ghost tag_is_valid = { tag_12 };
 
     const TAG: u8 = Tag::UTF8_STRING;
 
     fn tag_byte() -> u8
-        ensures { result ≡ 12 }
+        ensures { result ≡ utf8_tag }
     {
         Self::TAG
     }
@@ -66,10 +66,11 @@ impl<'a> DecodeValue<'a> for Utf8Ref<'a> {
         let Ok(text) = str::from_utf8(cursor.rest()) else {
             return Err(Error::Malformed);
         };
-        match Utf8Ref::new(text) {
-            Ok(value) => Ok(value),
-            Err(_) => Err(Error::Malformed),
-        }
+        let Ok(value) = Utf8Ref::new(text) else {
+            return Err(Error::Malformed);
+        };
+        cursor.take_rest();
+        Ok(value)
     }
 }
 

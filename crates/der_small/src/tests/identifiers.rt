@@ -1,6 +1,16 @@
 use crate::{Error, ObjectIdentifier};
 use std::test::Fail;
 
+fn is_text_of(rt: &HostRuntime, text: &str, content: &[u8]) -> Result<bool, Fail> {
+    let oid = ObjectIdentifier::new(text)?;
+    let shown = oid.to_string(rt.alloc())?;
+    Ok(
+        oid.as_bytes() == content
+            && ObjectIdentifier::from_bytes(content)? == oid
+            && shown.as_str() == text,
+    )
+}
+
 // Contents by X.690, 8.19, worked out by hand: 40 * X + Y, then base 128.
 #[test]
 fn texts_and_contents(rt: HostRuntime) -> Result<(), Fail> {
@@ -21,22 +31,23 @@ fn texts_and_contents(rt: HostRuntime) -> Result<(), Fail> {
         ("2.4294967215", &[0x8f, 0xff, 0xff, 0xff, 0x7f]),
     ];
     for (text, content) in rows {
-        let oid = ObjectIdentifier::new(text)?;
-        assert_eq!(rt; oid.as_bytes(), content);
-        assert_eq!(rt; ObjectIdentifier::from_bytes(content)?, oid);
-        assert_eq!(rt; oid.to_string(rt.alloc())?.as_bytes(), text.as_bytes());
+        assert!(rt; is_text_of(&rt, text, content)?, "{text}");
     }
-    let oid = ObjectIdentifier::new("2.999.3")?;
-    let mut arcs = oid.arcs();
-    assert_eq!(rt;
-        [arcs.next(), arcs.next(), arcs.next(), arcs.next()],
-        [Some(2), Some(999), Some(3), None]
-    );
     Ok(())
 }
 
 #[test]
-fn refused_identifiers(rt: HostRuntime) -> Result<(), Fail> {
+fn arcs(rt: HostRuntime) -> Result<(), Fail> {
+    let oid = ObjectIdentifier::new("2.999.3")?;
+    let mut arcs = oid.arcs();
+    for wanted in [Some(2), Some(999), Some(3), None] {
+        assert!(rt; arcs.next() == wanted);
+    }
+    Ok(())
+}
+
+#[test]
+fn refused_texts(rt: HostRuntime) {
     let texts = [
         "",
         "1",
@@ -58,12 +69,15 @@ fn refused_identifiers(rt: HostRuntime) -> Result<(), Fail> {
         "1.99999999999999999999",
     ];
     for text in texts {
-        assert_eq!(rt;
-            ObjectIdentifier::new(text),
-            Err(Error::OidMalformed),
+        assert!(rt;
+            ObjectIdentifier::new(text) == Err(Error::OidMalformed),
             "{text}"
         );
     }
+}
+
+#[test]
+fn refused_contents(rt: HostRuntime) {
     let contents: [&[u8]; 7] = [
         &[],
         &[0x80, 1],
@@ -74,24 +88,24 @@ fn refused_identifiers(rt: HostRuntime) -> Result<(), Fail> {
         &[1; 40],
     ];
     for content in contents {
-        assert_eq!(rt;
-            ObjectIdentifier::from_bytes(content),
-            Err(Error::Malformed)
+        assert!(rt;
+            ObjectIdentifier::from_bytes(content) == Err(Error::Malformed),
+            "{content:?}"
         );
     }
-    assert_eq!(rt;
-        ObjectIdentifier::from_bytes(&[1; 39])?.as_bytes().len(),
-        39
-    );
-    Ok(())
 }
 
-// The text of 40 arcs, and of 41: the first two arcs share a byte.
+// A content has 39 bytes at most. The text of 40 arcs has that many, since the first two share a byte, and that of 41 too many.
 #[test]
 fn longest_identifier(rt: HostRuntime) -> Result<(), Fail> {
     let ones = "1.1.1.1.1.1.1.1.1.1.1.1.1.1.1.1.1.1.1.1.1.1.1.1.1.1.1.1.1.1.1.1.1.1.1.1.1.1.1.1";
-    assert_eq!(rt; ObjectIdentifier::new(ones)?.as_bytes().len(), 39);
+    for oid in [
+        ObjectIdentifier::new(ones)?,
+        ObjectIdentifier::from_bytes(&[1; 39])?,
+    ] {
+        assert!(rt; oid.as_bytes().len() == 39);
+    }
     let more = "1.1.1.1.1.1.1.1.1.1.1.1.1.1.1.1.1.1.1.1.1.1.1.1.1.1.1.1.1.1.1.1.1.1.1.1.1.1.1.1.1";
-    assert_eq!(rt; ObjectIdentifier::new(more), Err(Error::OidMalformed));
+    assert!(rt; ObjectIdentifier::new(more) == Err(Error::OidMalformed));
     Ok(())
 }

@@ -1,44 +1,19 @@
+use super::round_trip::{is_malformed, is_written_as};
+use crate::laws::{
+    encoding_has_one_value, equal_texts_are_equal_identifiers, no_encoding_begins_another,
+    no_value_begins_another,
+};
 use crate::{
     Any, AnyRef, BitString, BitStringRef, Choice, Cursor, Decode, DerOrd, Encode, EncodeValue,
     Error, FixedTag, Length, ObjectIdentifier, OctetString, OctetStringRef, Tag, Utf8Ref, ValueOrd,
-    encoding_has_one_value, no_encoding_begins_another, no_value_begins_another,
+    field_at, tagged_len,
 };
-use std::alloc::AllocError;
 use std::cmp::Ordering;
 use std::test::Fail;
 
-fn zeros(rt: &HostRuntime, count: usize) -> Result<Vec<u8>, AllocError> {
-    vec![in rt.alloc(); 0u8; count]
-}
-
-// Headers by X.690, 8.1.3 and 10.1.
+// X.690, 8.1.2, 8.1.3 and 10.1: tags of several bytes, lengths that are no shortest ones, and contents that end early.
 #[test]
-fn lengths_of_every_width(rt: HostRuntime) -> Result<(), Fail> {
-    let rows: [(usize, &[u8]); 9] = [
-        (0, &[4, 0]),
-        (127, &[4, 0x7f]),
-        (128, &[4, 0x81, 0x80]),
-        (255, &[4, 0x81, 0xff]),
-        (256, &[4, 0x82, 1, 0]),
-        (65535, &[4, 0x82, 0xff, 0xff]),
-        (65536, &[4, 0x83, 1, 0, 0]),
-        (16777215, &[4, 0x83, 0xff, 0xff, 0xff]),
-        (16777216, &[4, 0x84, 1, 0, 0, 0]),
-    ];
-    for (count, header) in rows {
-        let content = zeros(&rt, count)?;
-        let value = OctetStringRef::new(&content)?;
-        let encoding = value.to_der(rt.alloc())?;
-        assert!(rt; encoding.starts_with(header), "header of {count}");
-        assert_eq!(rt; encoding.len(), header.len() + count);
-        assert_eq!(rt; value.encoded_len()?.get() as usize, encoding.len());
-        assert_eq!(rt; OctetStringRef::from_der(&encoding)?, value, "of {count}");
-    }
-    Ok(())
-}
-
-#[test]
-fn refused_headers(rt: HostRuntime) -> Result<(), Fail> {
+fn refused_headers(rt: HostRuntime) {
     let refused: [&[u8]; 15] = [
         &[],
         &[4],
@@ -57,53 +32,90 @@ fn refused_headers(rt: HostRuntime) -> Result<(), Fail> {
         &[4, 2, 9],
     ];
     for bytes in refused {
-        assert_eq!(rt; AnyRef::from_der(bytes), Err(Error::Malformed));
+        assert!(rt; is_malformed::<AnyRef>(bytes), "{bytes:?}");
     }
+}
+
+// NULL, and then an octet string that ends early, at which the cursor stays.
+fn cursor_stays() -> Result<bool, Error> {
     let mut cursor = Cursor::new(&[5, 0, 4, 2, 1]);
-    assert_eq!(rt; cursor.peek_tag(), Tag::new(5));
-    assert!(rt; cursor.read_value()?.is_null());
-    assert_eq!(rt; cursor.read_value(), Err(Error::Malformed));
-    assert_eq!(rt; cursor.rest(), [4, 2, 1].as_slice());
-    assert!(rt; !cursor.is_finished());
-    assert_eq!(rt; Cursor::new(&[0x1f]).peek_tag(), None);
+    let tag = cursor.peek_tag();
+    let is_null = cursor.read_value()?.is_null();
+    let refused = cursor.read_value().err();
+    Ok(
+        tag == Tag::new(5)
+            && is_null
+            && refused == Some(Error::Malformed)
+            && cursor.rest() == [4, 2, 1].as_slice()
+            && !cursor.is_finished(),
+    )
+}
+
+fn cursor_takes_the_rest() -> bool {
+    let mut cursor = Cursor::new(&[0x1f]);
+    cursor.peek_tag().is_none() && cursor.take_rest() == [0x1f].as_slice() && cursor.is_finished()
+}
+
+#[test]
+fn cursors(rt: HostRuntime) -> Result<(), Fail> {
+    assert!(rt; cursor_stays()?);
+    assert!(rt; cursor_takes_the_rest());
     Ok(())
+}
+
+// NULL, borrowed and owned.
+fn is_null_everywhere(rt: &HostRuntime) -> Result<bool, Error> {
+    let null = AnyRef::from_der(&[5, 0])?;
+    let owned = null.ref_to_owned(rt.alloc())?;
+    Ok(
+        null.is_null()
+            && owned.is_null()
+            && owned.owned_to_ref() == null
+            && owned.tag() == null.tag()
+            && owned.value() == null.value()
+            && owned == Any::from_der(rt.alloc(), &[5, 0])?
+            && owned.to_der(rt.alloc())?.as_slice() == [5, 0].as_slice()
+            && AnyRef::new(null.tag(), &[])? == null,
+    )
+}
+
+// The identifier of Ed25519 (RFC 8410, section 3), as a value of any tag.
+fn holds_an_identifier(rt: &HostRuntime) -> Result<bool, Error> {
+    let ed25519 = ObjectIdentifier::new("1.3.101.112")?;
+    let any = Any::encode_from(rt.alloc(), &ed25519)?;
+    Ok(
+        any.tag().byte() == Tag::OID
+            && any.value() == [0x2b, 0x65, 0x70].as_slice()
+            && any.decode_as::<ObjectIdentifier>()? == ed25519,
+    )
 }
 
 #[test]
 fn values_of_any_tag(rt: HostRuntime) -> Result<(), Fail> {
-    let null = AnyRef::from_der(&[5, 0])?;
-    assert!(rt; null.is_null());
-    let (Some(expected), Some(actual)) = (Tag::new(Tag::OID), Tag::new(Tag::NULL)) else {
-        return Err(Fail::new("no tags"));
-    };
-    assert_eq!(rt;
-        null.decode_as::<ObjectIdentifier>(),
-        Err(Error::TagUnexpected { expected, actual })
-    );
-    let owned = null.ref_to_owned(rt.alloc())?;
-    assert_eq!(rt; owned.owned_to_ref(), null);
-    assert!(rt; owned.is_null());
-    assert_eq!(rt; owned.tag(), null.tag());
-    assert_eq!(rt; owned.value(), null.value());
-    assert_eq!(rt; owned, Any::from_der(rt.alloc(), &[5, 0])?);
-    assert_eq!(rt; owned.to_der(rt.alloc())?.as_slice(), [5, 0].as_slice());
-    assert_eq!(rt; AnyRef::new(actual, &[])?, null);
+    assert!(rt; is_null_everywhere(&rt)?);
+    assert!(rt; holds_an_identifier(&rt)?);
     Ok(())
 }
 
 #[test]
-fn values_in_values_of_any_tag(rt: HostRuntime) -> Result<(), Fail> {
+fn values_of_another_tag(rt: HostRuntime) -> Result<(), Fail> {
     let (Some(expected), Some(actual)) = (Tag::new(Tag::OID), Tag::new(Tag::NULL)) else {
         return Err(Fail::new("no tags"));
     };
-    let ed25519 = ObjectIdentifier::new("1.3.101.112")?;
-    let any = Any::encode_from(rt.alloc(), &ed25519)?;
-    assert_eq!(rt; any.tag(), expected);
-    assert_eq!(rt; any.value(), [0x2b, 0x65, 0x70].as_slice());
-    assert_eq!(rt; any.decode_as::<ObjectIdentifier>()?, ed25519);
-    assert!(rt; ObjectIdentifier::can_decode(expected));
-    assert!(rt; !ObjectIdentifier::can_decode(actual));
-    assert!(rt; AnyRef::can_decode(actual));
+    assert_eq!(rt;
+        AnyRef::new(actual, &[])?.decode_as::<ObjectIdentifier>(),
+        Err(Error::TagUnexpected { expected, actual })
+    );
+    assert!(rt;
+        ObjectIdentifier::can_decode(expected)
+            && !ObjectIdentifier::can_decode(actual)
+            && AnyRef::can_decode(actual)
+    );
+    Ok(())
+}
+
+#[test]
+fn trailing_bytes(rt: HostRuntime) {
     assert_eq!(rt;
         ObjectIdentifier::from_der(&[6, 1, 0x2b, 0]),
         Err(Error::TrailingData {
@@ -111,59 +123,83 @@ fn values_in_values_of_any_tag(rt: HostRuntime) -> Result<(), Fail> {
             remaining: 1
         })
     );
+}
+
+// A number under an implicit tag (X.690, 8.14), and a field of that tag at the front of bytes.
+fn tagged_number(rt: &HostRuntime) -> Result<bool, Error> {
+    let number = AnyRef::from_der(&[0x81, 1, 7])?;
+    let found = match field_at(number.tag(), &[0x81, 1, 7, 9]) {
+        Some((content, rest)) => content == [7].as_slice() && rest == [9].as_slice(),
+        None => false,
+    };
+    Ok(
+        found
+            && field_at(number.tag(), &[2, 1, 7]).is_none()
+            && tagged_len(&7u8)? == Length::new(3)
+            && Any::encode_from(rt.alloc(), &number)?.tag() == number.tag(),
+    )
+}
+
+#[test]
+fn implicit_tags(rt: HostRuntime) -> Result<(), Fail> {
+    assert!(rt; tagged_number(&rt)?);
     Ok(())
+}
+
+fn bits_are_kept(rt: &HostRuntime) -> Result<bool, Error> {
+    let bits = BitStringRef::new(4, &[0xf0])?.ref_to_owned(rt.alloc())?;
+    Ok(
+        bits.unused_bits() == 4
+            && bits.raw_bytes() == [0xf0].as_slice()
+            && bits.to_der(rt.alloc())?.as_slice() == [3, 2, 4, 0xf0].as_slice()
+            && BitString::from_der(rt.alloc(), &[3, 2, 4, 0xf0])? == bits
+            && BitStringRef::from_der(&[3, 1, 0])?.raw_bytes().is_empty(),
+    )
 }
 
 #[test]
 fn bit_strings(rt: HostRuntime) -> Result<(), Fail> {
-    assert_eq!(rt; BitStringRef::new(8, &[0xf0]), Err(Error::Malformed));
-    assert_eq!(rt; BitStringRef::new(1, &[]), Err(Error::Malformed));
-    let bits = BitStringRef::new(4, &[0xf0])?.ref_to_owned(rt.alloc())?;
-    assert_eq!(rt; bits.unused_bits(), 4);
-    assert_eq!(rt; bits.raw_bytes(), [0xf0].as_slice());
-    assert_eq!(rt;
-        bits.to_der(rt.alloc())?.as_slice(),
-        [3, 2, 4, 0xf0].as_slice()
-    );
-    assert_eq!(rt; BitString::from_der(rt.alloc(), &[3, 2, 4, 0xf0])?, bits);
-    assert_eq!(rt;
-        BitStringRef::from_der(&[3, 1, 0])?.raw_bytes(),
-        [].as_slice()
-    );
-    for refused in [[3, 2, 8, 0], [3, 2, 0xff, 0], [3, 1, 1, 0], [3, 0, 0, 0]] {
+    assert!(rt; bits_are_kept(&rt)?);
+    let counts: [(u8, &[u8]); 2] = [(8, &[0xf0]), (1, &[])];
+    for (unused_bits, octets) in counts {
         assert_eq!(rt;
-            BitStringRef::from_der(&refused[..2 + refused[1] as usize]),
+            BitStringRef::new(unused_bits, octets),
             Err(Error::Malformed)
         );
+    }
+    let refused: [&[u8]; 4] = [&[3, 2, 8, 0], &[3, 2, 0xff, 0], &[3, 1, 1], &[3, 0]];
+    for bytes in refused {
+        assert!(rt; is_malformed::<BitStringRef>(bytes), "{bytes:?}");
     }
     Ok(())
 }
 
+fn octets_are_kept(rt: &HostRuntime) -> Result<bool, Error> {
+    let octets = OctetStringRef::new(&[0])?.ref_to_owned(rt.alloc())?;
+    Ok(
+        octets.as_bytes() == [0].as_slice()
+            && octets.owned_to_ref().as_bytes() == [0].as_slice()
+            && octets.to_der(rt.alloc())?.as_slice() == [4, 1, 0].as_slice()
+            && OctetString::from_der(rt.alloc(), &[4, 1, 0])? == octets,
+    )
+}
+
 #[test]
 fn octet_strings(rt: HostRuntime) -> Result<(), Fail> {
-    let octets = OctetStringRef::new(&[0])?.ref_to_owned(rt.alloc())?;
-    assert_eq!(rt; octets.as_bytes(), [0].as_slice());
-    assert_eq!(rt; octets.owned_to_ref().as_bytes(), [0].as_slice());
-    assert_eq!(rt; octets.to_der(rt.alloc())?.as_slice(), [4, 1, 0].as_slice());
-    assert_eq!(rt; OctetString::from_der(rt.alloc(), &[4, 1, 0])?, octets);
+    assert!(rt; octets_are_kept(&rt)?);
     Ok(())
 }
 
 #[test]
 fn texts(rt: HostRuntime) -> Result<(), Fail> {
     let text = Utf8Ref::new("aé")?;
-    assert_eq!(rt;
-        text.to_der(rt.alloc())?.as_slice(),
-        [0x0c, 3, 0x61, 0xc3, 0xa9].as_slice()
-    );
-    assert_eq!(rt;
-        Utf8Ref::from_der(&[0x0c, 3, 0x61, 0xc3, 0xa9])?.as_str(),
-        "aé"
-    );
-    assert_eq!(rt; Utf8Ref::from_der(&[0x0c, 1, 0xc3]), Err(Error::Malformed));
+    assert!(rt; text.as_str() == "aé");
+    assert!(rt; is_written_as(&rt, &text, &[0x0c, 3, 0x61, 0xc3, 0xa9])?);
+    assert!(rt; is_malformed::<Utf8Ref>(&[0x0c, 1, 0xc3]));
     Ok(())
 }
 
+// X.690, 8.3: from 128 on a zero stands in front, and none where it is not needed.
 #[test]
 fn numbers_of_one_byte(rt: HostRuntime) -> Result<(), Fail> {
     let numbers: [(u8, &[u8]); 4] = [
@@ -173,105 +209,112 @@ fn numbers_of_one_byte(rt: HostRuntime) -> Result<(), Fail> {
         (255, &[2, 2, 0, 0xff]),
     ];
     for (number, encoding) in numbers {
-        assert_eq!(rt; number.to_der(rt.alloc())?.as_slice(), encoding);
-        assert_eq!(rt; u8::from_der(encoding)?, number);
+        assert!(rt; is_written_as(&rt, &number, encoding)?, "{number}");
     }
-    for refused in [[2, 2, 0, 0x7f], [2, 2, 1, 0], [2, 1, 0x80, 0], [2, 0, 0, 0]] {
-        assert_eq!(rt;
-            u8::from_der(&refused[..2 + refused[1] as usize]),
-            Err(Error::Malformed)
-        );
+    let refused: [&[u8]; 4] = [&[2, 2, 0, 0x7f], &[2, 2, 1, 0], &[2, 1, 0x80], &[2, 0]];
+    for bytes in refused {
+        assert!(rt; is_malformed::<u8>(bytes), "{bytes:?}");
     }
     Ok(())
 }
 
+// Tags by X.690, 8.3, 8.6, 8.7, 8.19 and 8.23. No contract sees the constants.
 #[test]
-fn tags_of_types(rt: HostRuntime) -> Result<(), Fail> {
-    assert_eq!(rt;
-        [
-            u8::tag_byte(),
-            BitStringRef::tag_byte(),
-            OctetString::tag_byte(),
-            ObjectIdentifier::tag_byte(),
-            Utf8Ref::tag_byte()
-        ],
-        [2, 3, 4, 6, 12]
-    );
-    Ok(())
+fn tags_of_types(rt: HostRuntime) {
+    let rows = [
+        (u8::TAG, u8::tag_byte(), 2),
+        (BitStringRef::TAG, BitStringRef::tag_byte(), 3),
+        (BitString::TAG, BitString::tag_byte(), 3),
+        (OctetStringRef::TAG, OctetStringRef::tag_byte(), 4),
+        (OctetString::TAG, OctetString::tag_byte(), 4),
+        (ObjectIdentifier::TAG, ObjectIdentifier::tag_byte(), 6),
+        (Utf8Ref::TAG, Utf8Ref::tag_byte(), 12),
+    ];
+    for (constant, answer, wanted) in rows {
+        assert!(rt; constant == wanted && answer == wanted, "{wanted}");
+    }
+}
+
+// The order of encodings is by tag, then length, then content; that of contents by bytes.
+fn octets_are_ordered() -> Result<bool, Error> {
+    let short = OctetStringRef::new(&[2])?;
+    let long = OctetStringRef::new(&[1, 1])?;
+    Ok(
+        short.der_cmp(&long)? == Ordering::Less
+            && short.value_cmp(&long)? == Ordering::Greater
+            && short.cmp(&long) == Ordering::Greater
+            && None.der_cmp(&Some(short))? == Ordering::Less
+            && Some(long).der_cmp(&Some(short))? == Ordering::Greater
+            && 200u8.der_cmp(&5)? == Ordering::Greater,
+    )
+}
+
+fn values_are_ordered() -> Result<bool, Error> {
+    let null = AnyRef::from_der(&[5, 0])?;
+    let one = AnyRef::from_der(&[4, 1, 1])?;
+    let bits = BitStringRef::new(0, &[9])?;
+    Ok(
+        one.der_cmp(&null)? == Ordering::Less
+            && one.value_cmp(&null)? == Ordering::Greater
+            && bits.cmp(&BitStringRef::new(1, &[2])?) == Ordering::Less
+            && bits.value_len()? == Length::new(2),
+    )
 }
 
 #[test]
 fn orders(rt: HostRuntime) -> Result<(), Fail> {
-    let short = OctetStringRef::new(&[2])?;
-    let long = OctetStringRef::new(&[1, 1])?;
-    assert_eq!(rt; short.der_cmp(&long), Ok(Ordering::Less));
-    assert_eq!(rt; short.value_cmp(&long), Ok(Ordering::Greater));
-    assert_eq!(rt; short.cmp(&long), Ordering::Greater);
-    assert_eq!(rt; None.der_cmp(&Some(short)), Ok(Ordering::Less));
-    assert_eq!(rt; Some(long).der_cmp(&Some(short)), Ok(Ordering::Greater));
-    assert_eq!(rt; 200u8.der_cmp(&5), Ok(Ordering::Greater));
+    assert!(rt; octets_are_ordered()?);
+    assert!(rt; values_are_ordered()?);
     Ok(())
 }
 
 #[test]
-fn orders_of_values_and_bits(rt: HostRuntime) -> Result<(), Fail> {
-    let null = AnyRef::from_der(&[5, 0])?;
-    let one = AnyRef::from_der(&[4, 1, 1])?;
-    assert_eq!(rt; one.der_cmp(&null), Ok(Ordering::Less));
-    assert_eq!(rt; one.value_cmp(&null), Ok(Ordering::Greater));
-    let bits = BitStringRef::new(0, &[9])?;
-    assert_eq!(rt; bits.cmp(&BitStringRef::new(1, &[2])?), Ordering::Less);
-    assert_eq!(rt; bits.value_len(), Ok(Length::new(2)));
-    Ok(())
-}
-
-#[test]
-fn sums_of_lengths(rt: HostRuntime) -> Result<(), Fail> {
+fn sums_of_lengths(rt: HostRuntime) {
     let most = Length::new(0xffff_ffff);
-    assert_eq!(rt; most.checked_add(Length::new(0)), Ok(most));
-    assert_eq!(rt; most.checked_add(Length::new(1)), Err(Error::Overlength));
-    Ok(())
+    let rows = [(0, Ok(most)), (1, Err(Error::Overlength))];
+    for (more, sum) in rows {
+        assert!(rt; most.checked_add(Length::new(more)) == sum, "{more}");
+    }
 }
 
 #[test]
 fn laws(_rt: HostRuntime) {
     encoding_has_one_value();
+    equal_texts_are_equal_identifiers();
     no_value_begins_another();
     no_encoding_begins_another::<OctetStringRef>();
 }
 
-// As Rust derives it: the name of the type, and its fields in order.
-#[test]
-fn debug_forms(rt: HostRuntime) -> Result<(), Fail> {
+fn shown(rt: &HostRuntime) -> Result<[String; 6], Fail> {
     let any = AnyRef::from_der(&[4, 1, 9])?;
     let bits = BitStringRef::new(4, &[0xf0])?;
     let octets = OctetStringRef::new(&[9])?;
     let text = Utf8Ref::new("a")?;
     let length = Length::new(7);
-    let rows = [
-        (
-            format!(in rt.alloc(); "{any:?}")?,
-            "AnyRef { tag: Tag { byte: 4 }, value: [9] }",
-        ),
-        (
-            format!(in rt.alloc(); "{bits:?}")?,
-            "BitStringRef { unused_bits: 4, raw: [240] }",
-        ),
-        (
-            format!(in rt.alloc(); "{octets:?}")?,
-            "OctetStringRef { bytes: [9] }",
-        ),
-        (
-            format!(in rt.alloc(); "{text:?}")?,
-            "Utf8Ref { text: \"a\" }",
-        ),
-        (
-            format!(in rt.alloc(); "{length:?}")?,
-            "Length { number: 7 }",
-        ),
+    let oid = ObjectIdentifier::new("2.999")?;
+    Ok([
+        format!(in rt.alloc(); "{any:?}")?,
+        format!(in rt.alloc(); "{bits:?}")?,
+        format!(in rt.alloc(); "{octets:?}")?,
+        format!(in rt.alloc(); "{text:?}")?,
+        format!(in rt.alloc(); "{length:?}")?,
+        format!(in rt.alloc(); "{oid:?}")?,
+    ])
+}
+
+// As Rust derives it: the name of the type, and its fields in order. An identifier is shown by its text.
+#[test]
+fn debug_forms(rt: HostRuntime) -> Result<(), Fail> {
+    let wanted = [
+        "AnyRef { tag: Tag { byte: 4 }, value: [9] }",
+        "BitStringRef { unused_bits: 4, raw: [240] }",
+        "OctetStringRef { bytes: [9] }",
+        "Utf8Ref { text: \"a\" }",
+        "Length { number: 7 }",
+        "ObjectIdentifier(2.999)",
     ];
-    for (shown, wanted) in &rows {
-        assert_eq!(rt; shown.as_str(), *wanted);
+    for (form, text) in shown(&rt)?.iter().zip(wanted) {
+        assert!(rt; form.as_str() == text, "{text}");
     }
     Ok(())
 }

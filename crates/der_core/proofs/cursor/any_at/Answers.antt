@@ -1,7 +1,7 @@
 -- What stands at the front, as the reading function of lists says.
 use Rattle.std.proofs.Common.{arith}
-use Rattle.der_core.proofs.Lengths.{IsBytes}
-use Rattle.der_core.proofs.Values.{found_of, fits_of, none_of}
+use Rattle.der_core.specs.LengthLaws.{IsBytes}
+use Rattle.der_core.specs.ValueLaws.{found_of, fits_of, none_of}
 use Rattle.der_core.proofs.cursor.any_at.Goals as goal
 
 pub returns-clause-found : goal.returns-clause-found

@@ -1,5 +1,5 @@
 use Rattle.std.proofs.Common.{List, ℕ, [], ◌++◌, ap}
-use Rattle.der_core.proofs.Tagged.{same_value}
+use Rattle.der_core.specs.ValueLaws.{same_value}
 use Rattle.der_core.proofs.laws.encoding_has_one_value.Goals as goal
 
 pub returns : goal.returns

@@ -1,5 +1,5 @@
 use Rattle.std.proofs.Common.{rules}
-use Rattle.der_core.proofs.Values.{values_unique}
+use Rattle.der_core.specs.ValueLaws.{values_unique}
 use Rattle.der_core.proofs.laws.no_encoding_begins_another.Goals as goal
 
 pub returns : goal.returns

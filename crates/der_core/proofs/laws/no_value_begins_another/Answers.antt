@@ -1,4 +1,4 @@
-use Rattle.der_core.proofs.Values.{values_unique}
+use Rattle.der_core.specs.ValueLaws.{values_unique}
 use Rattle.der_core.proofs.laws.no_value_begins_another.Goals as goal
 
 pub returns : goal.returns

@@ -1,5 +1,6 @@
 -- What the borrowed form reads.
-use Rattle.std.proofs.Common.{◌<◌, ◌^◌, List, ℕ, length}
+use Rattle.std.proofs.Common.{◌<◌, ◌^◌, List, ℕ, length, Err, ap, ◌∙◌}
+use Rattle.std.proofs.lemmas.Result.{err_from_is_err_and}
 use Rattle.der_core.specs.Any.{plain_ref, plain_any, ReadsPlain}
 use Rattle.der_core.specs.Decode.{ReadsAny}
 use Rattle.der_core.specs.Der.{encode}
@@ -8,8 +9,9 @@ use Rattle.der_core.proofs.Owned.{SameReads, owned_refusal, owned_value}
 use Rattle.der_core.specs.declared.any.AnyRef.{AnyRef}
 use Rattle.der_core.proofs.any.Any.from_der.Goals as goal
 
-pub returns-in-Err : goal.returns-in-Err
-returns-in-Err c =
+pub returns-in_err-from_der : goal.returns-in_err-from_der
+returns-in_err-from_der c =
+    let p = err_from_is_err_and c.from_residual.result c.from_residual.ensures.1 in
     let Reads : List ℕ → AnyRef → Type 0 = λ b v. ReadsAny b v.tag.byte v.value.now in
     let same : SameReads Reads ReadsPlain = record {
       plain = plain_ref;
@@ -21,9 +23,9 @@ returns-in-Err c =
       };
       borrowed_reads = λ b p r. record { is = r.is; fits = r.fits };
     } in
-    owned_refusal Reads ReadsPlain plain_any c.args.bytes.now c.in-Err.error same c.in-Err.ensures
+    rw (p.1 ∙ ap Err p.2) (owned_refusal Reads ReadsPlain plain_any c.args.bytes.now c.in_err-from_der.field-0.0 same c.in_err-from_der.ensures)
 
-pub returns-in-Ok : goal.returns-in-Ok
-returns-in-Ok c =
-    let reads : ReadsPlain c.args.bytes.now (plain_ref c.in-Ok.value) = record { tag_ok = c.in-Ok.value.tag.valid; is = c.in-Ok.ensures.is; fits = c.in-Ok.ensures.fits } in
-    owned_value ReadsPlain plain_any c.args.bytes.now (plain_ref c.in-Ok.value) c.ref_to_owned.result reads c.ref_to_owned.ensures
+pub returns : goal.returns
+returns c =
+    let reads : ReadsPlain c.args.bytes.now (plain_ref c.in_ok-from_der.field-0) = record { tag_ok = c.in_ok-from_der.field-0.tag.valid; is = c.in_ok-from_der.ensures.is; fits = c.in_ok-from_der.ensures.fits } in
+    owned_value ReadsPlain plain_any c.args.bytes.now (plain_ref c.in_ok-from_der.field-0) c.ref_to_owned.result reads c.ref_to_owned.ensures

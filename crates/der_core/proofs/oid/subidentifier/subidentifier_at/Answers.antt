@@ -2,7 +2,7 @@
 use Rattle.std.proofs.Common.{◌≡◌, ◌+◌, ◌-◌, ◌%◌, ℕ, length, get_or, take, drop, sym, ◌∙◌, arith, List}
 use Rattle.std.proofs.lemmas.Bool.{eqb-true}
 use Rattle.std.proofs.lemmas.List.{take_all, length-drop}
-use Rattle.der_core.proofs.Lengths.{IsBytes}
+use Rattle.der_core.specs.LengthLaws.{IsBytes}
 use Rattle.der_core.proofs.Subidentifiers.{read_front, read_none, read_none_at, read_some_at, read_more_at, read_end_at, none_empty, none_zero}
 use Rattle.der_core.proofs.oid.subidentifier.subidentifier_at.Goals as goal
 use Rattle.der_core.proofs.oid.subidentifier.subidentifier_at.Goals.{then-is_empty-via-then-is_empty, then-is_empty-via-else-is_empty+then-bytes}

@@ -1,0 +1,3 @@
+-- Lemmas.
+pub mod Reading
+pub mod Writing
