@@ -3,8 +3,8 @@ use Rattle.std.proofs.Common.{◌≡◌, ◌↔◌, ℕ, zero, suc, ◌+◌, ◌
 use Rattle.std.proofs.lemmas.Bool.{eqb-true}
 use Rattle.std.proofs.lemmas.List.{append-nil}
 use Rattle.der_core.specs.Der.{IsTag, IsValue, encode}
-use Rattle.der_core.proofs.Tagged.{same_value}
-use Rattle.der_core.proofs.Values.{length_encode}
+use Rattle.der_core.specs.Laws.{length_encode}
+use Rattle.der_core.specs.ValueLaws.{same_value}
 use Rattle.pkcs8.specs.Extensions.{Extensions, IsExtensions}
 
 pub is_empty_true : (s : List ℕ) → eqb (length s) 0 ≡ true → s ≡ []

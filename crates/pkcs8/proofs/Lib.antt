@@ -3,5 +3,7 @@ pub mod Equality
 pub mod Fields
 pub mod Keys
 pub mod Owned
+pub mod Parts
+pub mod Writing
 pub mod WrittenKeys
 pub mod WrittenAlike

@@ -1,7 +1,9 @@
 -- The owned form reads what the borrowed one reads.
-use Rattle.std.proofs.Common.{◌≡◌, ℕ, List, ◌∷◌, Option, Some, None, option_map, inl, inr}
+use Rattle.std.proofs.Common.{◌≡◌, ℕ, ◌<◌, ◌^◌, List, ◌∷◌, length, Option, Some, None, refl, subst, sym}
 use Rattle.der_core.specs.Any.{plain_ref}
 use Rattle.der_core.specs.Decode.{ReadsTagged}
+use Rattle.der_core.specs.Der.{encode}
+use Rattle.der_core.specs.Laws.{content_fits}
 use Rattle.der_core.specs.declared.any.AnyRef.{AnyRef}
 use Rattle.der_core.proofs.Owned.{SameReads, same_tagged}
 use Rattle.der_small.specs.Bits.{BitsContent}
@@ -9,151 +11,105 @@ use Rattle.der_small.specs.BitString.{plain_bits_ref}
 use Rattle.der_small.specs.OctetString.{octets_ref}
 use Rattle.der_small.specs.declared.bit_string.BitStringRef.{BitStringRef}
 use Rattle.der_small.specs.declared.octet_string.OctetStringRef.{OctetStringRef}
-use Rattle.spki.specs.PlainAlgorithm.{ReadsAlgorithm, plain_algorithm}
+use Rattle.spki.specs.PlainAlgorithm.{plain_algorithm}
+use Rattle.spki.specs.declared.algorithm.AlgorithmIdentifier.{AlgorithmIdentifier}
 use Rattle.spki.proofs.Owned.{BorrowsAny, ReadsAlgorithmRef, algorithm_plain, same_algorithms}
-use Rattle.pkcs8.specs.PlainPrivateKey.{PlainKeyContent, ReadsOctets, ReadsPrivateKey, plain_private_key_ref}
-use Rattle.pkcs8.specs.PrivateKey.{AfterAttributes, AfterKey, PrivateKeyFields}
+use Rattle.pkcs8.specs.Attributes.{attributes_bytes_ref}
+use Rattle.pkcs8.specs.PlainPrivateKey.{PlainPrivateKey, PlainKeyContent, ReadsOctets, ReadsPrivateKey, plain_reads, plain_private_key_ref}
+use Rattle.pkcs8.specs.PrivateKey.{KeyParts, PartReads, ReadsVersion, AfterAttributes, AfterKey, PrivateKeyFields, attributes_tag, public_key_tag}
+use Rattle.pkcs8.specs.PrivateKeyInfo.{PrivateKeyContent, parts_of}
+use Rattle.pkcs8.specs.Version.{version_of}
+use Rattle.pkcs8.specs.declared.attributes.AttributesRef.{AttributesRef}
 use Rattle.pkcs8.specs.declared.private_key_info.PrivateKeyInfo.{PrivateKeyInfo}
+use Rattle.pkcs8.proofs.Parts.{PartsTo, fields_to}
 
--- What stands behind the private key, over what the public key is seen as.
-attributes_to : {B C : Type 0} (H : List ℕ → B → Type 0) (J : List ℕ → C → Type 0) (f : B → C) → ((c : List ℕ) (v : B) → H c v → J c (f v)) → (s : List ℕ) (k : B) → AfterAttributes H (Some k) s → AfterAttributes J (Some (f k)) s
-attributes_to H J f turn s k t = record {
-  front = t.front;
-  rest = t.rest;
-  is = t.is;
-  reads = record { content = t.reads.content; has = turn t.reads.content k t.reads.has; is = t.reads.is; fits = t.reads.fits };
-  next = t.next;
-}
-
-key_to : {B C : Type 0} (H : List ℕ → B → Type 0) (J : List ℕ → C → Type 0) (f : B → C) → ((c : List ℕ) (v : B) → H c v → J c (f v)) → (s : List ℕ) (k : Option B) → AfterKey H k s → AfterKey J (option_map f k) s
-key_to H J f turn s None (inl a) = inl a
-key_to H J f turn s None (inr t) = inr t
-key_to H J f turn s (Some k) (inl a) = inl (a.0, attributes_to H J f turn s k a.1)
-key_to H J f turn s (Some k) (inr t) =
-    inr (record { front = t.front; rest = t.rest; is = t.is; reads = t.reads; next = attributes_to H J f turn t.rest k t.next })
-
-fields_to : {A A' K K' B C : Type 0} (RA : List ℕ → A → Type 0) (RA' : List ℕ → A' → Type 0) (RK : List ℕ → K → Type 0) (RK' : List ℕ → K' → Type 0) (H : List ℕ → B → Type 0) (J : List ℕ → C → Type 0) (f : A → A') (g : K → K') (h : B → C) → ((b : List ℕ) (v : A) → RA b v → RA' b (f v)) → ((b : List ℕ) (v : K) → RK b v → RK' b (g v)) → ((c : List ℕ) (v : B) → H c v → J c (h v)) → (s : List ℕ) (a : A) (k : K) (b : Option B) → PrivateKeyFields RA RK H s a k b → PrivateKeyFields RA' RK' J s (f a) (g k) (option_map h b)
-fields_to RA RA' RK RK' H J f g h tf tg th s a k None t = record {
-  front = t.front;
-  rest = t.rest;
-  is = t.is;
-  reads = t.reads;
-  next = record {
-    front = t.next.front;
-    rest = t.next.rest;
-    is = t.next.is;
-    reads = tf t.next.front a t.next.reads;
-    next = record {
-      front = t.next.next.front;
-      rest = t.next.next.rest;
-      is = t.next.next.is;
-      reads = tg t.next.next.front k t.next.next.reads;
-      next = key_to H J h th t.next.next.rest None t.next.next.next;
-    };
-  };
-}
-fields_to RA RA' RK RK' H J f g h tf tg th s a k (Some b) t = record {
-  front = t.front;
-  rest = t.rest;
-  is = t.is;
-  reads = t.reads;
-  next = record {
-    front = t.next.front;
-    rest = t.next.rest;
-    is = t.next.is;
-    reads = tf t.next.front a t.next.reads;
-    next = record {
-      front = t.next.next.front;
-      rest = t.next.next.rest;
-      is = t.next.next.is;
-      reads = tg t.next.next.front k t.next.next.reads;
-      next = key_to H J h th t.next.next.rest (Some b) t.next.next.next;
-    };
-  };
-}
-
--- A borrowed public key for each plain one.
+-- A borrowed value for the plain one of each content.
 pub record BorrowsContent {B C : Type 0} (H : List ℕ → B → Type 0) (J : List ℕ → C → Type 0) : Type 0 where
-  pub of : (c : List ℕ) (v : C) → J c v → B
-  pub reads : (c : List ℕ) (v : C) (j : J c v) → H c (of c v j)
+  pub of : (c : List ℕ) (v : C) → J c v → length c < 2 ^ 32 → B
+  pub reads : (c : List ℕ) (v : C) (j : J c v) (fits : length c < 2 ^ 32) → H c (of c v j fits)
 
-record SomeKey {B : Type 0} (H : List ℕ → B → Type 0) (s : List ℕ) : Type 0 where
-  key : B
-  after : AfterKey H (Some key) s
+-- A borrowed value for each plain part.
+pub record PartsBack {A K B T A' K' B' T' : Type 0} (reads : PartReads A K B T) (plain : PartReads A' K' B' T') : Type 0 where
+  pub algorithm : SameReads reads.algorithm plain.algorithm
+  pub private_key : SameReads reads.private_key plain.private_key
+  pub attributes : BorrowsContent reads.attributes plain.attributes
+  pub public_key : BorrowsContent reads.public_key plain.public_key
 
-attributes_back : {B C : Type 0} (H : List ℕ → B → Type 0) (J : List ℕ → C → Type 0) (of : BorrowsContent H J) (s : List ℕ) (k : C) (t : AfterAttributes J (Some k) s) → AfterAttributes H (Some (of.of t.reads.content k t.reads.has)) s
-attributes_back H J of s k t = record {
-  front = t.front;
-  rest = t.rest;
-  is = t.is;
-  reads = record { content = t.reads.content; has = of.reads t.reads.content k t.reads.has; is = t.reads.is; fits = t.reads.fits };
-  next = t.next;
-}
+record SomeTagged {B : Type 0} (H : List ℕ → B → Type 0) (tag : ℕ) (b : List ℕ) : Type 0 where
+  value : B
+  reads : ReadsTagged tag H b value
 
-some_back : {B C : Type 0} (H : List ℕ → B → Type 0) (J : List ℕ → C → Type 0) → BorrowsContent H J → (s : List ℕ) (k : C) → AfterKey J (Some k) s → SomeKey H s
-some_back H J of s k (inl a) = record { key = of.of a.1.reads.content k a.1.reads.has; after = inl (a.0, attributes_back H J of s k a.1) }
-some_back H J of s k (inr t) = record {
-  key = of.of t.next.reads.content k t.next.reads.has;
-  after = inr (record { front = t.front; rest = t.rest; is = t.is; reads = t.reads; next = attributes_back H J of t.rest k t.next });
-}
-
-record SomeFields {A K B : Type 0} (RA : List ℕ → A → Type 0) (RK : List ℕ → K → Type 0) (H : List ℕ → B → Type 0) (s : List ℕ) : Type 0 where
-  algorithm : A
-  key : K
-  public : Option B
-  fields : PrivateKeyFields RA RK H s algorithm key public
-
-none_back : {B C : Type 0} (H : List ℕ → B → Type 0) (J : List ℕ → C → Type 0) (s : List ℕ) → AfterKey J None s → AfterKey H None s
-none_back H J s (inl a) = inl a
-none_back H J s (inr t) = inr t
-
-fields_back : {A A' K K' B C : Type 0} (RA : List ℕ → A → Type 0) (RA' : List ℕ → A' → Type 0) (RK : List ℕ → K → Type 0) (RK' : List ℕ → K' → Type 0) (H : List ℕ → B → Type 0) (J : List ℕ → C → Type 0) → SameReads RA RA' → SameReads RK RK' → BorrowsContent H J → (s : List ℕ) (a : A') (k : K') (b : Option C) → PrivateKeyFields RA' RK' J s a k b → SomeFields RA RK H s
-fields_back RA RA' RK RK' H J sa sk of s a k None t = record {
-  algorithm = sa.borrowed t.next.front a t.next.reads;
-  key = sk.borrowed t.next.next.front k t.next.next.reads;
-  public = None;
-  fields = record {
-    front = t.front;
-    rest = t.rest;
-    is = t.is;
-    reads = t.reads;
-    next = record {
-      front = t.next.front;
-      rest = t.next.rest;
-      is = t.next.is;
-      reads = sa.borrowed_reads t.next.front a t.next.reads;
-      next = record {
-        front = t.next.next.front;
-        rest = t.next.next.rest;
-        is = t.next.next.is;
-        reads = sk.borrowed_reads t.next.next.front k t.next.next.reads;
-        next = none_back H J t.next.next.rest t.next.next.next;
-      };
-    };
-  };
-}
-fields_back RA RA' RK RK' H J sa sk of s a k (Some b) t =
-    let back = some_back H J of t.next.next.rest b t.next.next.next in
+tagged_back : {B C : Type 0} (H : List ℕ → B → Type 0) (J : List ℕ → C → Type 0) → BorrowsContent H J → (tag : ℕ) (b : List ℕ) (v : C) → ReadsTagged tag J b v → SomeTagged H tag b
+tagged_back H J of tag b v r =
+    let fits = content_fits tag r.content (subst (λ (x : List ℕ). length x < 2 ^ 32) r.is r.fits) in
     record {
-      algorithm = sa.borrowed t.next.front a t.next.reads;
-      key = sk.borrowed t.next.next.front k t.next.next.reads;
-      public = Some back.key;
+      value = of.of r.content v r.has fits;
+      reads = record { content = r.content; has = of.reads r.content v r.has fits; is = r.is; fits = r.fits };
+    }
+
+record SomePublic {B C : Type 0} (H : List ℕ → B → Type 0) (k : Option C) (s : List ℕ) : Type 0 where
+  public : Option B
+  version : version_of public ≡ version_of k
+  after : AfterAttributes H public s
+
+public_back : {B C : Type 0} (H : List ℕ → B → Type 0) (J : List ℕ → C → Type 0) → BorrowsContent H J → (k : Option C) (s : List ℕ) → AfterAttributes J k s → SomePublic H k s
+public_back H J of None s a = record { public = None; version = refl; after = a }
+public_back H J of (Some k) s a =
+    let back = tagged_back H J of public_key_tag a.front k a.reads in
+    record { public = Some back.value; version = refl; after = record { front = a.front; rest = a.rest; is = a.is; reads = back.reads; next = a.next } }
+
+record SomeTail {B T C : Type 0} (HT : List ℕ → T → Type 0) (HB : List ℕ → B → Type 0) (k : Option C) (s : List ℕ) : Type 0 where
+  attributes : Option T
+  public : Option B
+  version : version_of public ≡ version_of k
+  after : AfterKey HT HB attributes public s
+
+tail_back : {B T C U : Type 0} (HT : List ℕ → T → Type 0) (HB : List ℕ → B → Type 0) (JT : List ℕ → U → Type 0) (JB : List ℕ → C → Type 0) → BorrowsContent HT JT → BorrowsContent HB JB → (t : Option U) (k : Option C) (s : List ℕ) → AfterKey JT JB t k s → SomeTail HT HB k s
+tail_back HT HB JT JB ofT ofB None k s a =
+    let back = public_back HB JB ofB k s a.1 in
+    record { attributes = None; public = back.public; version = back.version; after = (a.0, back.after) }
+tail_back HT HB JT JB ofT ofB (Some t) k s a =
+    let back = public_back HB JB ofB k a.rest a.next in
+    let attributes = tagged_back HT JT ofT attributes_tag a.front t a.reads in
+    record {
+      attributes = Some attributes.value;
+      public = back.public;
+      version = back.version;
+      after = record { front = a.front; rest = a.rest; is = a.is; reads = attributes.reads; next = back.after };
+    }
+
+record SomeFields {A K B T : Type 0} (reads : PartReads A K B T) (s : List ℕ) : Type 0 where
+  parts : KeyParts A K B T
+  fields : PrivateKeyFields reads s parts
+
+fields_back : {A K B T A' K' B' T' : Type 0} (reads : PartReads A K B T) (plain : PartReads A' K' B' T') → PartsBack reads plain → (s : List ℕ) (v : KeyParts A' K' B' T') → PrivateKeyFields plain s v → SomeFields reads s
+fields_back reads plain back s v t =
+    let algorithm = t.next in
+    let key = algorithm.next in
+    let tail = tail_back reads.attributes reads.public_key plain.attributes plain.public_key back.attributes back.public_key v.attributes v.public_key key.rest key.next in
+    record {
+      parts = record {
+        algorithm = back.algorithm.borrowed algorithm.front v.algorithm algorithm.reads;
+        private_key = back.private_key.borrowed key.front v.private_key key.reads;
+        attributes = tail.attributes;
+        public_key = tail.public;
+      };
       fields = record {
         front = t.front;
         rest = t.rest;
         is = t.is;
-        reads = t.reads;
+        reads = subst (ReadsVersion t.front) (sym tail.version) t.reads;
         next = record {
-          front = t.next.front;
-          rest = t.next.rest;
-          is = t.next.is;
-          reads = sa.borrowed_reads t.next.front a t.next.reads;
+          front = algorithm.front;
+          rest = algorithm.rest;
+          is = algorithm.is;
+          reads = back.algorithm.borrowed_reads algorithm.front v.algorithm algorithm.reads;
           next = record {
-            front = t.next.next.front;
-            rest = t.next.next.rest;
-            is = t.next.next.is;
-            reads = sk.borrowed_reads t.next.next.front k t.next.next.reads;
-            next = back.after;
+            front = key.front;
+            rest = key.rest;
+            is = key.is;
+            reads = back.private_key.borrowed_reads key.front v.private_key key.reads;
+            next = tail.after;
           };
         };
       };
@@ -165,25 +121,49 @@ HasOctetsRef = λ b v. v.bytes.now ≡ b
 abbrev pub HasBitsRef : List ℕ → BitStringRef → Type 0
 HasBitsRef = λ b v. b ≡ v.unused_bits ∷ v.raw.now
 
-abbrev pub KeyContentRef : List ℕ → PrivateKeyInfo AnyRef OctetStringRef BitStringRef → Type 0
-KeyContentRef = λ b v. PrivateKeyFields ReadsAlgorithmRef (ReadsTagged 4 HasOctetsRef) HasBitsRef b v.algorithm v.private_key v.public_key
+abbrev pub HasAttributesRef : List ℕ → AttributesRef → Type 0
+HasAttributesRef = λ b v. v.content.now ≡ b
 
-pub key_plain : (c : List ℕ) (v : PrivateKeyInfo AnyRef OctetStringRef BitStringRef) → KeyContentRef c v → PlainKeyContent c (plain_private_key_ref v)
-key_plain c v t =
-    fields_to ReadsAlgorithmRef ReadsAlgorithm (ReadsTagged 4 HasOctetsRef) ReadsOctets HasBitsRef BitsContent (plain_algorithm plain_ref) octets_ref plain_bits_ref
-    (λ b v r. algorithm_plain b v r)
-    (λ b v r. record { content = r.content; has = r.has; is = r.is; fits = r.fits })
-    (λ c v h. record { bits = v.are_bits; is = h })
-    c v.algorithm v.private_key v.public_key t
+abbrev pub borrowed_reads : PartReads (AlgorithmIdentifier AnyRef) OctetStringRef BitStringRef AttributesRef
+borrowed_reads = record { algorithm = ReadsAlgorithmRef; private_key = ReadsTagged 4 HasOctetsRef; attributes = HasAttributesRef; public_key = HasBitsRef }
 
-pub reads_plain : (b : List ℕ) (v : PrivateKeyInfo AnyRef OctetStringRef BitStringRef) → ReadsTagged 48 KeyContentRef b v → ReadsPrivateKey b (plain_private_key_ref v)
+abbrev pub KeyContentRef : List ℕ → PrivateKeyInfo AnyRef OctetStringRef BitStringRef AttributesRef → Type 0
+KeyContentRef = PrivateKeyContent borrowed_reads
+
+to_plain : PartsTo borrowed_reads plain_reads
+to_plain = record {
+  algorithm = plain_algorithm plain_ref;
+  reads_algorithm = algorithm_plain;
+  private_key = octets_ref;
+  reads_private_key = λ b v r. record { content = r.content; has = r.has; is = r.is; fits = r.fits };
+  attributes = attributes_bytes_ref;
+  has_attributes = λ c v h. h;
+  public_key = plain_bits_ref;
+  has_public_key = λ c v h. record { bits = v.are_bits; is = h };
+}
+
+pub key_plain : (c : List ℕ) (v : PrivateKeyInfo AnyRef OctetStringRef BitStringRef AttributesRef) → KeyContentRef c v → PlainKeyContent c (plain_private_key_ref v)
+unfolding to_plain
+key_plain c v t = fields_to borrowed_reads plain_reads to_plain c (parts_of v) t
+
+pub reads_plain : (b : List ℕ) (v : PrivateKeyInfo AnyRef OctetStringRef BitStringRef AttributesRef) → ReadsTagged 48 KeyContentRef b v → ReadsPrivateKey b (plain_private_key_ref v)
 reads_plain b v r = record { content = r.content; has = key_plain r.content v r.has; is = r.is; fits = r.fits }
 
-pub same_private_keys : (any : BorrowsAny) → SameReads (ReadsTagged 4 HasOctetsRef) ReadsOctets → BorrowsContent HasBitsRef BitsContent → SameReads (ReadsTagged 48 KeyContentRef) ReadsPrivateKey
-same_private_keys any octets bits =
-    let back = fields_back ReadsAlgorithmRef ReadsAlgorithm (ReadsTagged 4 HasOctetsRef) ReadsOctets HasBitsRef BitsContent (same_algorithms any) octets bits in
+-- The borrowed forms of the parts that are octets and bits, where these can be borrowed.
+pub record BorrowsParts : Type 0 where
+  pub any : BorrowsAny
+  pub octets : SameReads (ReadsTagged 4 HasOctetsRef) ReadsOctets
+  pub attributes : BorrowsContent HasAttributesRef plain_reads.attributes
+  pub bits : BorrowsContent HasBitsRef BitsContent
+
+key_back : BorrowsParts → (c : List ℕ) (p : PlainPrivateKey) → PlainKeyContent c p → SomeFields borrowed_reads c
+key_back borrows c p t =
+    fields_back borrowed_reads plain_reads (record { algorithm = same_algorithms borrows.any; private_key = borrows.octets; attributes = borrows.attributes; public_key = borrows.bits }) c p t
+
+pub same_private_keys : BorrowsParts → SameReads (ReadsTagged 48 KeyContentRef) ReadsPrivateKey
+same_private_keys borrows =
     same_tagged 48 KeyContentRef PlainKeyContent plain_private_key_ref key_plain
     (λ c p t fits.
-    let some = back c p.algorithm p.private_key p.public_key t in
-    record { algorithm = some.algorithm; private_key = some.key; public_key = some.public })
-    (λ c p t fits. (back c p.algorithm p.private_key p.public_key t).fields)
+    let parts = (key_back borrows c p t).parts in
+    record { algorithm = parts.algorithm; private_key = parts.private_key; attributes = parts.attributes; public_key = parts.public_key })
+    (λ c p t fits. (key_back borrows c p t).fields)

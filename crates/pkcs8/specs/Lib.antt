@@ -1,5 +1,6 @@
 -- What the contracts of this crate cite.
 pub mod Answers
+pub mod Attributes
 pub mod Error
 pub mod Extensions
 pub mod KeyFiles
@@ -7,6 +8,7 @@ pub mod PlainPrivateKey
 pub mod PrivateKey
 pub mod PrivateKeyInfo
 pub mod ReadLaws
+pub mod Same
 pub mod Shown
 pub mod ShownEncoding
 pub mod Version

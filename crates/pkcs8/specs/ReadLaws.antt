@@ -1,51 +1,37 @@
 -- One answer to each list of bytes, and one to each value.
-use Rattle.std.proofs.Common.{◌≡◌, ℕ, zero, suc, ◌<◌, ◌^◌, nat_lt, List, [], ◌∷◌, ◌++◌, length, Bool, true, false, Option, Some, None, Result, Ok, Err, inl, inr, refl, sym, ap, subst, ◌∙◌, if◌then◌else◌}
-use Rattle.der_core.specs.Decode.{NoFront, Trails, ReadsTagged, ReadsTagged-one_value}
+use Rattle.std.proofs.Common.{◌≡◌, ℕ, zero, suc, ◌<◌, ◌^◌, nat_lt, List, [], ◌∷◌, ◌++◌, length, Bool, true, false, Option, Some, None, Result, Ok, Err, refl, sym, ap, subst, ◌∙◌, if◌then◌else◌}
+use Rattle.der_core.specs.Decode.{ReadsTagged, ReadsTagged-one_value}
 use Rattle.der_core.specs.Der.{IsTag, IsValue, encode}
 use Rattle.der_core.specs.Sequence.{Then}
-use Rattle.der_core.specs.Tags.{tag_2, tag_4, tag_48, tag_129, tag_160}
+use Rattle.der_core.specs.SequenceLaws.{ReadsOne, then_same}
+use Rattle.der_core.specs.Tags.{integer_tag, octet_string_tag, sequence_tag, tag_129, tag_160, tag_2, tag_4, tag_48}
+use Rattle.der_core.specs.ValueLaws.{same_value}
+use Rattle.der_core.specs.declared.error.Error.{Error as DerError}
 use Rattle.der_core.specs.declared.error.Error.TheVariants as der
-use Rattle.der_core.proofs.Sequences.{then_same}
-use Rattle.der_core.proofs.Tagged.{same_value}
 use Rattle.der_small.specs.Bits.{PlainBits, BitsContent}
-use Rattle.spki.specs.ReadLaws.{ReadsOne, no_front_of, no_trail_of, no_trail_front, same_trail, algorithm_one, algorithm_value}
+use Rattle.spki.specs.ReadLaws.{Outcome, read, malformed, trailing, algorithm_one, algorithm_value, same_outcome}
 use Rattle.spki.specs.PlainAlgorithm.{PlainAlgorithm, ReadsAlgorithm}
 use Rattle.pkcs8.specs.Answers.{IsOfAFile, ReadAnswer, written_answer}
 use Rattle.pkcs8.specs.Extensions.{IsExtensions}
-use Rattle.pkcs8.specs.PlainPrivateKey.{PlainPrivateKey, PlainKeyContent, ReadsOctets, ReadsPrivateKey}
-use Rattle.pkcs8.specs.PrivateKey.{ReadsVersion, AfterAttributes, AfterKey, BeginsWith, IsAttributes, PrivateKeyFields}
+use Rattle.pkcs8.specs.PlainPrivateKey.{PlainPrivateKey, PlainKeyContent, ReadsOctets, ReadsPrivateKey, plain_reads}
+use Rattle.pkcs8.specs.PrivateKey.{KeyParts, PartReads, ReadsVersion, AfterAttributes, AfterKey, NoField, PrivateKeyFields, attributes_tag, public_key_tag}
 use Rattle.pkcs8.specs.Version.{version_byte, version_of}
 use Rattle.pkcs8.specs.declared.error.Error.{Error}
 use Rattle.pkcs8.specs.declared.error.Error.TheVariants as error
 use Rattle.pkcs8.specs.declared.version.Version.{Version}
 use Rattle.pkcs8.specs.declared.version.Version.TheVariants.{V1, V2}
 
--- The three answers.
-pub data Outcome {P : Type 0} (Reads : List ℕ → P → Type 0) (bytes : List ℕ) (r : Result P Error) : Type 0 where
-  read : (v : P) → r ≡ Ok v → Reads bytes v → Outcome Reads bytes r
-  malformed : r ≡ Err (error.Asn1 der.Malformed) → NoFront Reads bytes → Outcome Reads bytes r
-  trailing : (decoded remaining : ℕ) → r ≡ Err (error.Asn1 (der.TrailingData decoded remaining)) → Trails Reads bytes decoded remaining → Outcome Reads bytes r
+abbrev of_der : DerError → Error
+of_der e = error.Asn1 e
 
-outcome_of : {P : Type 0} (Reads : List ℕ → P → Type 0) (bytes : List ℕ) (r : Result P Error) → ReadAnswer Reads bytes r → Outcome Reads bytes r
+outcome_of : {P : Type 0} (Reads : List ℕ → P → Type 0) (bytes : List ℕ) (r : Result P Error) → ReadAnswer Reads bytes r → Outcome of_der Reads bytes r
 outcome_of Reads bytes (Ok v) h = read v refl h
 outcome_of Reads bytes (Err (error.Asn1 der.Malformed)) h = malformed refl h
 outcome_of Reads bytes (Err (error.Asn1 (der.TrailingData decoded remaining))) h = trailing decoded remaining refl h
 outcome_of Reads bytes (Err _) h = absurd h
 
-same_outcome : {P : Type 0} (Reads : List ℕ → P → Type 0) → ReadsOne Reads → (bytes : List ℕ) (r s : Result P Error) → Outcome Reads bytes r → Outcome Reads bytes s → r ≡ s
-same_outcome {P = P} Reads law bytes r s (read v e h) (read w f k) = let ok : P → Result P Error = λ x. Ok x in e ∙ ap ok (law.one bytes v w h k) ∙ sym f
-same_outcome Reads law bytes r s (read v e h) (malformed f k) = absurd (no_front_of Reads bytes v h k)
-same_outcome Reads law bytes r s (read v e h) (trailing d n f k) = absurd (no_trail_of Reads law bytes v d n h k)
-same_outcome Reads law bytes r s (malformed e h) (read w f k) = absurd (no_front_of Reads bytes w k h)
-same_outcome Reads law bytes r s (malformed e h) (malformed f k) = e ∙ sym f
-same_outcome Reads law bytes r s (malformed e h) (trailing d n f k) = absurd (no_trail_front Reads bytes d n h k)
-same_outcome Reads law bytes r s (trailing d n e h) (read w f k) = absurd (no_trail_of Reads law bytes w d n k h)
-same_outcome Reads law bytes r s (trailing d n e h) (malformed f k) = absurd (no_trail_front Reads bytes d n k h)
-same_outcome {P = P} Reads law bytes r s (trailing d n e h) (trailing d' n' f k) =
-    let same = same_trail Reads law bytes d n d' n' h k in
-    let with_decoded : ℕ → Result P Error = λ x. Err (error.Asn1 (der.TrailingData x n)) in
-    let with_remaining : ℕ → Result P Error = λ x. Err (error.Asn1 (der.TrailingData d' x)) in
-    e ∙ ap with_decoded same.0 ∙ ap with_remaining same.1 ∙ sym f
+pub read_one_answer : {P : Type 0} (Reads : List ℕ → P → Type 0) → ReadsOne Reads → (bytes : List ℕ) (one other : Result P Error) → ReadAnswer Reads bytes one → ReadAnswer Reads bytes other → one ≡ other
+read_one_answer Reads law bytes one other h k = same_outcome of_der Reads law bytes one other (outcome_of Reads bytes one h) (outcome_of Reads bytes other k)
 
 pub read_no_file : {P : Type 0} (Reads : List ℕ → P → Type 0) (bytes : List ℕ) (e : Error) → ReadAnswer Reads bytes (Err e) → IsOfAFile e → ⊥
 read_no_file Reads bytes (error.Asn1 der.FileMissing) h file = h
@@ -109,61 +95,66 @@ after_first [] = []
 after_first (x ∷ xs) = xs
 
 pub one_version : (b : List ℕ) (v w : Version) → ReadsVersion b v → ReadsVersion b w → v ≡ w
-one_version = tagged_one 2 _ tag_2 (λ c v w h k. same_byte v w (ap first (sym h ∙ k)))
+one_version = tagged_one integer_tag _ tag_2 (λ c v w h k. same_byte v w (ap first (sym h ∙ k)))
 
 pub version_value : (b : List ℕ) (v : Version) → ReadsVersion b v → IsValue b
-version_value b v r = ReadsTagged-one_value 2 _ b v tag_2 r
+version_value b v r = ReadsTagged-one_value integer_tag _ b v tag_2 r
 
-attributes_begin : (content rest : List ℕ) → BeginsWith 160 (encode 160 content ++ rest)
-unfolding encode
-attributes_begin content rest = refl
-
-attributes_front : (Next : List ℕ → Type 0) (s : List ℕ) → Then IsAttributes Next s tt → BeginsWith 160 s
-attributes_front Next s t =
-    let is : encode 160 t.reads.content ++ t.rest ≡ s = sym (t.is ∙ ap (λ (x : List ℕ). x ++ t.rest) t.reads.is) in
-    subst (BeginsWith 160) is (attributes_begin t.reads.content t.rest)
-
-attributes_value : (b : List ℕ) (v : Unit {0}) → IsAttributes b v → IsValue b
-attributes_value b v r = ReadsTagged-one_value 160 _ b v tag_160 r
-
-one_public_at : {B : Type 0} (H : List ℕ → B → Type 0) → ((c : List ℕ) (v w : B) → H c v → H c w → v ≡ w) → (s : List ℕ) (k l : B) → AfterAttributes H (Some k) s → AfterAttributes H (Some l) s → k ≡ l
-one_public_at H one s k l a b =
-    let both = both_then (ReadsTagged 129 H) IsExtensions IsExtensions s k l (λ b v r. ReadsTagged-one_value 129 H b v tag_129 r) a b in
-    tagged_one 129 H tag_129 one both.front k l both.reads both.reads'
-
-one_public : {B : Type 0} (H : List ℕ → B → Type 0) → ((c : List ℕ) (v w : B) → H c v → H c w → v ≡ w) → (s : List ℕ) (k l : B) → AfterKey H (Some k) s → AfterKey H (Some l) s → k ≡ l
-one_public H one s k l (inl a) (inl b) = one_public_at H one s k l a.1 b.1
-one_public H one s k l (inl a) (inr b) = absurd (a.0 (attributes_front (AfterAttributes H (Some l)) s b))
-one_public H one s k l (inr a) (inl b) = absurd (b.0 (attributes_front (AfterAttributes H (Some k)) s a))
-one_public H one s k l (inr a) (inr b) =
-    let both = both_then IsAttributes (AfterAttributes H (Some k)) (AfterAttributes H (Some l)) s tt tt attributes_value a b in
-    one_public_at H one both.rest k l both.next both.next'
+-- Where attributes stand at the front, it is not so that none do.
+not_without : {T : Type 0} (H : List ℕ → T → Type 0) (Next : List ℕ → Type 0) (s : List ℕ) (v : T) → NoField attributes_tag s → Then (ReadsTagged attributes_tag H) Next s v → ⊥
+not_without H Next s v none t =
+    none t.reads.content t.rest (subst (λ (x : List ℕ). length x < 2 ^ 32) t.reads.is t.reads.fits) (t.is ∙ ap (λ (x : List ℕ). x ++ t.rest) t.reads.is)
 
 abbrev IsV1 : Version → Type 0
 IsV1 V1 = Unit {0}
 IsV1 V2 = ⊥
 
-one_optional : {B : Type 0} (H : List ℕ → B → Type 0) → ((c : List ℕ) (v w : B) → H c v → H c w → v ≡ w) → (s : List ℕ) (k l : Option B) → version_of k ≡ version_of l → AfterKey H k s → AfterKey H l s → k ≡ l
-one_optional H one s None None e a b = refl
-one_optional H one s None (Some l) e a b = absurd (subst IsV1 e tt)
-one_optional H one s (Some k) None e a b = absurd (subst IsV1 (sym e) tt)
-one_optional {B = B} H one s (Some k) (Some l) e a b = let some : B → Option B = λ x. Some x in ap some (one_public H one s k l a b)
+-- The contents of a part that is one for each content.
+abbrev pub ContentOne : {X : Type 0} → (List ℕ → X → Type 0) → Type 0
+ContentOne {X = X} H = (c : List ℕ) (v w : X) → H c v → H c w → v ≡ w
 
-pub record SameFields {A K B : Type 0} (a a' : A) (k k' : K) (b b' : B) : Type 0 where
-  pub algorithm : a ≡ a'
-  pub key : k ≡ k'
-  pub public : b ≡ b'
+one_public : {B : Type 0} (H : List ℕ → B → Type 0) → ContentOne H → (s : List ℕ) (k l : Option B) → version_of k ≡ version_of l → AfterAttributes H k s → AfterAttributes H l s → k ≡ l
+one_public H one s None None e a b = refl
+one_public H one s None (Some l) e a b = absurd (subst IsV1 e tt)
+one_public H one s (Some k) None e a b = absurd (subst IsV1 (sym e) tt)
+one_public {B = B} H one s (Some k) (Some l) e a b =
+    let some : B → Option B = λ x. Some x in
+    let both = both_then (ReadsTagged public_key_tag H) IsExtensions IsExtensions s k l (λ b v r. ReadsTagged-one_value public_key_tag H b v tag_129 r) a b in
+    ap some (tagged_one public_key_tag H tag_129 one both.front k l both.reads both.reads')
 
-pub one_fields : {A K B : Type 0} (RA : List ℕ → A → Type 0) (RK : List ℕ → K → Type 0) (HB : List ℕ → B → Type 0) → ReadsOne RA → ReadsOne RK → ((c : List ℕ) (v w : B) → HB c v → HB c w → v ≡ w) → (s : List ℕ) (a a' : A) (k k' : K) (b b' : Option B) → PrivateKeyFields RA RK HB s a k b → PrivateKeyFields RA RK HB s a' k' b' → SameFields a a' k k' b b'
-one_fields RA RK HB lawA lawK oneB s a a' k k' b b' r r' =
-    let versions = both_then ReadsVersion _ _ s (version_of b) (version_of b') version_value r r' in
-    let algorithms = both_then RA _ _ versions.rest a a' lawA.value versions.next versions.next' in
-    let keys = both_then RK (AfterKey HB b) (AfterKey HB b') algorithms.rest k k' lawK.value algorithms.next algorithms.next' in
-    record {
-      algorithm = lawA.one algorithms.front a a' algorithms.reads algorithms.reads';
-      key = lawK.one keys.front k k' keys.reads keys.reads';
-      public = one_optional HB oneB keys.rest b b' (one_version versions.front (version_of b) (version_of b') versions.reads versions.reads') keys.next keys.next';
-    }
+one_tail : {B T : Type 0} (HT : List ℕ → T → Type 0) (HB : List ℕ → B → Type 0) → ContentOne HT → ContentOne HB → (s : List ℕ) (t u : Option T) (k l : Option B) → version_of k ≡ version_of l → AfterKey HT HB t k s → AfterKey HT HB u l s → (t ≡ u) × (k ≡ l)
+one_tail HT HB oneT oneB s None None k l e a b = (refl, one_public HB oneB s k l e a.1 b.1)
+one_tail HT HB oneT oneB s None (Some u) k l e a b = absurd (not_without HT (AfterAttributes HB l) s u a.0 b)
+one_tail HT HB oneT oneB s (Some t) None k l e a b = absurd (not_without HT (AfterAttributes HB k) s t b.0 a)
+one_tail {T = T} HT HB oneT oneB s (Some t) (Some u) k l e a b =
+    let some : T → Option T = λ x. Some x in
+    let both = both_then (ReadsTagged attributes_tag HT) (AfterAttributes HB k) (AfterAttributes HB l) s t u (λ b v r. ReadsTagged-one_value attributes_tag HT b v tag_160 r) a b in
+    (ap some (tagged_one attributes_tag HT tag_160 oneT both.front t u both.reads both.reads'), one_public HB oneB both.rest k l e both.next both.next')
+
+-- Each part is one for each encoding, or for each content.
+pub record PartsOne {A K B T : Type 0} (reads : PartReads A K B T) : Type 0 where
+  pub algorithm : ReadsOne reads.algorithm
+  pub private_key : ReadsOne reads.private_key
+  pub attributes : ContentOne reads.attributes
+  pub public_key : ContentOne reads.public_key
+
+-- Keys with the same parts are the same.
+pub same_parts : {A K B T : Type 0} (v w : KeyParts A K B T) → v.algorithm ≡ w.algorithm → v.private_key ≡ w.private_key → v.attributes ≡ w.attributes → v.public_key ≡ w.public_key → v ≡ w
+same_parts {A = A} {K = K} {B = B} {T = T} v w a k t b =
+    let with_algorithm : A → KeyParts A K B T = λ x. record { algorithm = x; private_key = v.private_key; attributes = v.attributes; public_key = v.public_key } in
+    let with_key : K → KeyParts A K B T = λ x. record { algorithm = w.algorithm; private_key = x; attributes = v.attributes; public_key = v.public_key } in
+    let with_attributes : Option T → KeyParts A K B T = λ x. record { algorithm = w.algorithm; private_key = w.private_key; attributes = x; public_key = v.public_key } in
+    let with_public : Option B → KeyParts A K B T = λ x. record { algorithm = w.algorithm; private_key = w.private_key; attributes = w.attributes; public_key = x } in
+    ap with_algorithm a ∙ ap with_key k ∙ ap with_attributes t ∙ ap with_public b
+
+pub one_fields : {A K B T : Type 0} (reads : PartReads A K B T) → PartsOne reads → (s : List ℕ) (v w : KeyParts A K B T) → PrivateKeyFields reads s v → PrivateKeyFields reads s w → v ≡ w
+one_fields reads one s v w r r' =
+    let versions = both_then ReadsVersion _ _ s (version_of v.public_key) (version_of w.public_key) version_value r r' in
+    let algorithms = both_then reads.algorithm _ _ versions.rest v.algorithm w.algorithm one.algorithm.value versions.next versions.next' in
+    let keys = both_then reads.private_key (AfterKey reads.attributes reads.public_key v.attributes v.public_key) (AfterKey reads.attributes reads.public_key w.attributes w.public_key) algorithms.rest v.private_key w.private_key one.private_key.value algorithms.next algorithms.next' in
+    let version = one_version versions.front (version_of v.public_key) (version_of w.public_key) versions.reads versions.reads' in
+    let tails = one_tail reads.attributes reads.public_key one.attributes one.public_key keys.rest v.attributes w.attributes v.public_key w.public_key version keys.next keys.next' in
+    same_parts v w (one.algorithm.one algorithms.front v.algorithm w.algorithm algorithms.reads algorithms.reads') (one.private_key.one keys.front v.private_key w.private_key keys.reads keys.reads') tails.0 tails.1
 
 one_bits : (c : List ℕ) (v w : PlainBits) → BitsContent c v → BitsContent c w → v ≡ w
 one_bits c v w h k =
@@ -173,24 +164,18 @@ one_bits c v w h k =
 
 octets_one : ReadsOne ReadsOctets
 octets_one = record {
-  value = λ b v r. ReadsTagged-one_value 4 _ b v tag_4 r;
-  one = tagged_one 4 _ tag_4 (λ c v w h k. h ∙ sym k);
+  value = λ b v r. ReadsTagged-one_value octet_string_tag _ b v tag_4 r;
+  one = tagged_one octet_string_tag _ tag_4 (λ c v w h k. h ∙ sym k);
 }
 
 key_one : (c : List ℕ) (p q : PlainPrivateKey) → PlainKeyContent c p → PlainKeyContent c q → p ≡ q
-key_one c p q r s =
-    let same = one_fields ReadsAlgorithm ReadsOctets BitsContent (record { value = algorithm_value; one = algorithm_one }) octets_one one_bits c p.algorithm q.algorithm p.private_key q.private_key p.public_key q.public_key r s in
-    let with_algorithm : PlainAlgorithm → PlainPrivateKey = λ x. record { algorithm = x; private_key = p.private_key; public_key = p.public_key } in
-    let with_key : List ℕ → PlainPrivateKey = λ x. record { algorithm = q.algorithm; private_key = x; public_key = p.public_key } in
-    let with_public : Option PlainBits → PlainPrivateKey = λ x. record { algorithm = q.algorithm; private_key = q.private_key; public_key = x } in
-    ap with_algorithm same.algorithm ∙ ap with_key same.key ∙ ap with_public same.public
+key_one = one_fields plain_reads (record { algorithm = record { value = algorithm_value; one = algorithm_one }; private_key = octets_one; attributes = λ c v w h k. h ∙ sym k; public_key = one_bits })
 
 pub reads_one_private_key : ReadsOne ReadsPrivateKey
 reads_one_private_key = record {
-  value = λ b v r. ReadsTagged-one_value 48 PlainKeyContent b v tag_48 r;
-  one = tagged_one 48 PlainKeyContent tag_48 key_one;
+  value = λ b v r. ReadsTagged-one_value sequence_tag PlainKeyContent b v tag_48 r;
+  one = tagged_one sequence_tag PlainKeyContent tag_48 key_one;
 }
 
 pub private_key_one_answer : (bytes : List ℕ) (one other : Result PlainPrivateKey Error) → ReadAnswer ReadsPrivateKey bytes one → ReadAnswer ReadsPrivateKey bytes other → one ≡ other
-private_key_one_answer bytes one other h k =
-    same_outcome ReadsPrivateKey reads_one_private_key bytes one other (outcome_of ReadsPrivateKey bytes one h) (outcome_of ReadsPrivateKey bytes other k)
+private_key_one_answer = read_one_answer ReadsPrivateKey reads_one_private_key

@@ -1,52 +1,67 @@
 //! Private keys.
 ghost use Rattle.std.specs.Prelude.{◌≡◌, MatchResult, None};
 ghost use Rattle.der_core.specs.Decode.{FromDerOwned};
-ghost use Rattle.der_core.specs.Tags.{tag_48};
+ghost use Rattle.der_core.specs.Tags.{sequence_tag, tag_48};
 ghost use Rattle.pkcs8.specs.PlainPrivateKey.{plain_private_key, plain_private_key_ref, ReadsPrivateKey};
+ghost use Rattle.der_core.specs.Decode.{ReadsTagged};
+ghost use Rattle.der_core.specs.Der.{encode};
 ghost use Rattle.pkcs8.specs.PrivateKeyInfo.{PrivateKeyContent, private_key_content};
+ghost use Rattle.spki.specs.Algorithm.{ReadsAlgorithmIdentifier, algorithm_encoding};
 ghost use Rattle.pkcs8.specs.Version.{version_of};
 
 use crate::shown::{shown_parameters, shown_public_key};
-use crate::tail::{PUBLIC_KEY, after_key};
-use crate::{BitStringLike, DecodePrivateKey, EncodePrivateKey, Error, Result, Version};
+use crate::tail::{after_key, encode_tail, tail_len};
+use crate::{
+    Attributes, AttributesRef, BitStringLike, DecodePrivateKey, EncodePrivateKey, Error, Result,
+    Version,
+};
 use der_small::{
     Any, AnyRef, BitString, BitStringRef, Choice, Cursor, Decode, DecodeValue, Encode, EncodeValue,
-    FixedTag, Length, OctetString, OctetStringRef, SecretDocument, Tag, Writer, encode_tagged,
-    tagged_len,
+    FixedTag, Length, OctetString, OctetStringRef, SecretDocument, Tag, Writer,
 };
 use spki::AlgorithmIdentifier;
 use std::alloc::Global;
 use std::fmt;
 
-/// A private key and what it is a key of. Its debug form does not show the key.
+/// A private key and what it is a key of. Its debug form shows neither the key nor the attributes, and of parameters whose encoding has more than 128 bytes `..` alone. `Debug` of the field `private_key` by itself shows the octets.
 #[derive(Clone, Drop, PartialEq, Eq)]
-pub struct PrivateKeyInfo<Params, Key, PubKey> {
+pub struct PrivateKeyInfo<Params, Key, PubKey, Attrs> {
     /// What the key is a key of.
     pub algorithm: AlgorithmIdentifier<Params>,
 
-    /// The key, in the form of its algorithm.
+    /// The key, in the form of its algorithm. Its own `Debug` may show it: that of `OctetString` does.
     pub private_key: Key,
+
+    /// What is kept with the key, such as a friendly name, where the document holds it.
+    pub attributes: Option<Attrs>,
 
     /// The public key that belongs to it, where the document holds it. That it belongs is not checked.
     pub public_key: Option<PubKey>,
 }
 
 /// A private key in borrowed bytes.
-pub type PrivateKeyInfoRef<'a> = PrivateKeyInfo<AnyRef<'a>, OctetStringRef<'a>, BitStringRef<'a>>;
+pub type PrivateKeyInfoRef<'a> = PrivateKeyInfo<
+    AnyRef<'a>,
+    OctetStringRef<'a>,
+    BitStringRef<'a>,
+    AttributesRef<'a>,
+>;
 
 /// A private key with bytes of its own.
-pub type PrivateKeyInfoOwned = PrivateKeyInfo<Any, OctetString, BitString>;
+pub type PrivateKeyInfoOwned = PrivateKeyInfo<Any, OctetString, BitString, Attributes>;
 
-impl<Params, Key, PubKey> PrivateKeyInfo<Params, Key, PubKey> {
-    /// A key without its public key.
+impl<Params, Key, PubKey, Attrs> PrivateKeyInfo<Params, Key, PubKey, Attrs> {
+    /// A key without attributes and without its public key.
     pub fn new(algorithm: AlgorithmIdentifier<Params>, private_key: Key) -> Self
         ensures algorithm { result.algorithm ≡ algorithm }
         ensures private_key { result.private_key ≡ private_key }
+        ensures attributes { result.attributes ≡ None }
         ensures public_key { result.public_key ≡ None }
     {
         PrivateKeyInfo {
             algorithm,
             private_key,
+            attributes: None,
             public_key: None,
         }
     }
@@ -62,24 +77,28 @@ impl<Params, Key, PubKey> PrivateKeyInfo<Params, Key, PubKey> {
     }
 }
 
-impl<Params, Key, PubKey> FixedTag for PrivateKeyInfo<Params, Key, PubKey> {
-    ghost tag = { 48 };
+impl<Params, Key, PubKey, Attrs> FixedTag for PrivateKeyInfo<Params, Key, PubKey, Attrs> {
+    ghost tag = { sequence_tag };
 
     ghost tag_is_valid = { tag_48 };
 
     const TAG: u8 = Tag::SEQUENCE;
 
     fn tag_byte() -> u8
-        ensures { result ≡ 48 }
+        ensures { result ≡ sequence_tag }
     {
         Tag::SEQUENCE
     }
 }
 
-impl<'a, Params: Choice<'a>, Key: DecodeValue<'a> + FixedTag, PubKey: DecodeValue<'a>> DecodeValue<
+impl<
     'a,
-> for PrivateKeyInfo<Params, Key, PubKey> {
-    ghost HasContent = { PrivateKeyContent Params.Reads Key.tag Key.HasContent PubKey.HasContent };
+    Params: Choice<'a>,
+    Key: DecodeValue<'a> + FixedTag,
+    PubKey: DecodeValue<'a>,
+    Attrs: DecodeValue<'a>,
+> DecodeValue<'a> for PrivateKeyInfo<Params, Key, PubKey, Attrs> {
+    ghost HasContent = { PrivateKeyContent (record { algorithm = ReadsAlgorithmIdentifier Params.Reads; private_key = ReadsTagged Key.tag Key.HasContent; attributes = Attrs.HasContent; public_key = PubKey.HasContent }) };
 
     fn decode_value(cursor: &mut Cursor<'a>) -> der_small::Result<Self> {
         let mut at = Cursor::new(cursor.rest());
@@ -92,32 +111,35 @@ impl<'a, Params: Choice<'a>, Key: DecodeValue<'a> + FixedTag, PubKey: DecodeValu
         let Ok(private_key) = Key::decode(&mut at) else {
             return Err(der_small::Error::Malformed);
         };
-        let Ok(public_key) = after_key::<PubKey>(version, at.rest()) else {
+        let Ok(tail) = after_key::<Attrs, PubKey>(version, at.rest()) else {
             return Err(der_small::Error::Malformed);
         };
+        cursor.take_rest();
         Ok(PrivateKeyInfo {
             algorithm,
             private_key,
-            public_key,
+            attributes: tail.attributes,
+            public_key: tail.public_key,
         })
     }
 }
 
-impl<Params: Encode, Key: EncodeValue + FixedTag, PubKey: BitStringLike> EncodeValue
-    for PrivateKeyInfo<Params, Key, PubKey> {
-    ghost content = { private_key_content Params.encoding Key.tag Key.content PubKey.bits };
+impl<
+    Params: Encode,
+    Key: EncodeValue + FixedTag,
+    PubKey: BitStringLike,
+    Attrs: EncodeValue,
+> EncodeValue for PrivateKeyInfo<Params, Key, PubKey, Attrs> {
+    ghost content = { private_key_content (record { algorithm = algorithm_encoding Params.encoding; private_key = λ key. encode Key.tag (Key.content key); attributes = Attrs.content; public_key = PubKey.bits }) };
 
     fn value_len(&self) -> der_small::Result<Length> {
         let version = self.version().encoded_len()?;
         let algorithm = self.algorithm.encoded_len()?;
         let private_key = self.private_key.encoded_len()?;
-        let public_key = match &self.public_key {
-            None => Length::new(0),
-            Some(public_key) => tagged_len(PUBLIC_KEY, &public_key.as_bit_string())?,
-        };
+        let tail = tail_len(&self.attributes, &self.public_key)?;
         let two = version.checked_add(algorithm)?;
         let three = two.checked_add(private_key)?;
-        three.checked_add(public_key)
+        three.checked_add(tail)
     }
 
     fn encode_value<W: Writer>(&self, writer: &mut W) -> der_small::Result<()> {
@@ -125,18 +147,15 @@ impl<Params: Encode, Key: EncodeValue + FixedTag, PubKey: BitStringLike> EncodeV
         self.version().encode(writer)?;
         self.algorithm.encode(writer)?;
         self.private_key.encode(writer)?;
-        match &self.public_key {
-            None => Ok(()),
-            Some(public_key) => encode_tagged(PUBLIC_KEY, &public_key.as_bit_string(), writer),
-        }
+        encode_tail(&self.attributes, &self.public_key, writer)
     }
 }
 
-impl<Params: Encode, Key, PubKey: BitStringLike> fmt::Debug
-    for PrivateKeyInfo<Params, Key, PubKey> {
+impl<Params: Encode, Key, PubKey: BitStringLike, Attrs> fmt::Debug
+    for PrivateKeyInfo<Params, Key, PubKey, Attrs> {
     ghost use Rattle.pkcs8.specs.Shown.{key_debug};
 
-    // The private key is no part of it.
+    // The private key and the attributes are no part of it.
     ghost debug_output = { λ v. key_debug Params.encoding PubKey.bits v.algorithm v.public_key };
 
     fn fmt<W: fmt::Write>(&self, f: &mut fmt::Formatter<W>) -> fmt::Result {
@@ -151,30 +170,35 @@ impl<Params: Encode, Key, PubKey: BitStringLike> fmt::Debug
     }
 }
 
-impl<Params: Encode, Key: EncodeValue + FixedTag, PubKey: BitStringLike> PrivateKeyInfo<
-    Params,
-    Key,
-    PubKey,
-> {
+impl<
+    Params: Encode,
+    Key: EncodeValue + FixedTag,
+    PubKey: BitStringLike,
+    Attrs: EncodeValue,
+> PrivateKeyInfo<Params, Key, PubKey, Attrs> {
     ghost use Rattle.std.specs.Prelude.{◌<◌, ◌^◌, length, IfOk, IfErr, OnOk};
     ghost use Rattle.der_small.specs.SecretDocument.{secret_bytes};
     ghost use Rattle.pkcs8.specs.Answers.{IsOverlengthOrMemory};
-    ghost use Rattle.pkcs8.specs.PrivateKeyInfo.{private_key_encoding};
 
     /// The document in which the key is stored.
     pub fn to_secret_document(&self, alloc: Global) -> Result<SecretDocument>
-        ensures value { IfOk result (λ document. secret_bytes document ≡ private_key_encoding Params.encoding Key.tag Key.content PubKey.bits self.now) }
-        ensures fits { OnOk result (length (private_key_encoding Params.encoding Key.tag Key.content PubKey.bits self.now) < 2 ^ 32) }
-        ensures overlength { IfErr result (IsOverlengthOrMemory (private_key_encoding Params.encoding Key.tag Key.content PubKey.bits self.now)) }
+        ensures value { IfOk result (λ document. secret_bytes document ≡ ⟦<PrivateKeyInfo<Params, Key, PubKey, Attrs> as Encode>⟧.encoding self.now) }
+        ensures fits { OnOk result (length (⟦<PrivateKeyInfo<Params, Key, PubKey, Attrs> as Encode>⟧.encoding self.now) < 2 ^ 32) }
+        ensures overlength { IfErr result (IsOverlengthOrMemory (⟦<PrivateKeyInfo<Params, Key, PubKey, Attrs> as Encode>⟧.encoding self.now)) }
     {
         Ok(SecretDocument::encode_msg(alloc, self)?)
     }
 }
 
-impl<'a> PrivateKeyInfo<AnyRef<'a>, OctetStringRef<'a>, BitStringRef<'a>> {
+impl<'a> PrivateKeyInfo<AnyRef<'a>, OctetStringRef<'a>, BitStringRef<'a>, AttributesRef<'a>> {
+    /// The same key with bytes of its own, for when the input doesn't live long enough.
     pub fn ref_to_owned(&self, alloc: Global) -> Result<PrivateKeyInfoOwned>
         ensures { MatchResult result (λ v. plain_private_key v ≡ plain_private_key_ref self.now) (λ e. e ≡ Error.OutOfMemory) }
     {
+        let attributes = match &self.attributes {
+            None => None,
+            Some(attributes) => Some(attributes.ref_to_owned(alloc)?),
+        };
         let public_key = match &self.public_key {
             None => None,
             Some(public_key) => Some(public_key.ref_to_owned(alloc)?),
@@ -182,12 +206,13 @@ impl<'a> PrivateKeyInfo<AnyRef<'a>, OctetStringRef<'a>, BitStringRef<'a>> {
         Ok(PrivateKeyInfo {
             algorithm: self.algorithm.ref_to_owned(alloc)?,
             private_key: self.private_key.ref_to_owned(alloc)?,
+            attributes,
             public_key,
         })
     }
 }
 
-impl PrivateKeyInfo<Any, OctetString, BitString> {
+impl PrivateKeyInfo<Any, OctetString, BitString, Attributes> {
     /// Reads one private key and copies it.
     pub fn from_der(alloc: Global, bytes: &[u8]) -> der_small::Result<Self>
         ensures { FromDerOwned plain_private_key ReadsPrivateKey bytes.now result }
@@ -201,18 +226,20 @@ impl PrivateKeyInfo<Any, OctetString, BitString> {
         }
     }
 
+    /// The same key in borrowed bytes.
     pub fn owned_to_ref(&self) -> PrivateKeyInfoRef<'_>
         ensures { plain_private_key_ref result ≡ plain_private_key self.now }
     {
         PrivateKeyInfo {
             algorithm: self.algorithm.owned_to_ref(),
             private_key: self.private_key.owned_to_ref(),
+            attributes: self.attributes.as_ref().map(|a| a.owned_to_ref()),
             public_key: self.public_key.as_ref().map(|k| k.owned_to_ref()),
         }
     }
 }
 
-impl DecodePrivateKey for PrivateKeyInfo<Any, OctetString, BitString> {
+impl DecodePrivateKey for PrivateKeyInfo<Any, OctetString, BitString, Attributes> {
     ghost use Rattle.pkcs8.specs.Answers.{ReadAnswer};
     ghost use Rattle.pkcs8.specs.PlainPrivateKey.{PlainPrivateKey};
     ghost use Rattle.pkcs8.specs.ReadLaws.{private_key_one_answer, read_no_file};
@@ -232,7 +259,7 @@ impl DecodePrivateKey for PrivateKeyInfo<Any, OctetString, BitString> {
     ghost no_file = { read_no_file ReadsPrivateKey };
 }
 
-impl EncodePrivateKey for PrivateKeyInfo<Any, OctetString, BitString> {
+impl EncodePrivateKey for PrivateKeyInfo<Any, OctetString, BitString, Attributes> {
     ghost use Rattle.pkcs8.specs.Answers.{written_answer};
     ghost use Rattle.pkcs8.specs.PlainPrivateKey.{private_key_der};
     ghost use Rattle.pkcs8.specs.ReadLaws.{written_no_file};
@@ -246,7 +273,8 @@ impl EncodePrivateKey for PrivateKeyInfo<Any, OctetString, BitString> {
     ghost no_file = { λ v. written_no_file (private_key_der (plain_private_key v)) };
 }
 
-impl<'a> EncodePrivateKey for PrivateKeyInfo<AnyRef<'a>, OctetStringRef<'a>, BitStringRef<'a>> {
+impl<'a> EncodePrivateKey
+    for PrivateKeyInfo<AnyRef<'a>, OctetStringRef<'a>, BitStringRef<'a>, AttributesRef<'a>> {
     ghost use Rattle.pkcs8.specs.Answers.{written_answer};
     ghost use Rattle.pkcs8.specs.PlainPrivateKey.{private_key_der};
     ghost use Rattle.pkcs8.specs.ReadLaws.{written_no_file};

@@ -1,18 +1,20 @@
 //! What follows the private key: attributes, the public key, extensions.
-ghost use Rattle.std.specs.Prelude.{◌≡◌, ◌↔◌, Option as Maybe, IfOk, IfErr, OnErr, IsTrue};
+ghost use Rattle.std.specs.Prelude.{◌≡◌, ◌<◌, ◌≤◌, ◌^◌, length, Option as Maybe, IfOk, IfErr, OnErr};
 ghost use Rattle.der_core.specs.declared.error.Error.TheVariants as der;
-ghost use Rattle.pkcs8.specs.PrivateKey.{AfterAttributes, AfterKey, BeginsWith};
+ghost use Rattle.der_core.specs.Encode.{LengthOf, Wrote};
+ghost use Rattle.pkcs8.specs.PrivateKey.{AfterAttributes, AfterKey, after_key_written, attributes_tag, optional_field, public_key_tag};
 ghost use Rattle.pkcs8.specs.Version.{version_of};
 
-use crate::Version;
+use crate::attributes::ATTRIBUTES;
 use crate::extensions::are_extensions;
-use der_small::{Cursor, DecodeValue, Error, Result};
-
-/// The tag of attributes.
-const ATTRIBUTES: u8 = 0xa0;
+use crate::{BitStringLike, Version};
+use der_core::field_at;
+use der_small::{
+    Cursor, DecodeValue, EncodeValue, Error, Length, Result, Tag, Writer, encode_tagged, tagged_len,
+};
 
 /// The tag of the public key, whose content is that of a bit string.
-pub(crate) const PUBLIC_KEY: u8 = 0x81;
+const PUBLIC_KEY: u8 = 0x81;
 
 /// The public key where the version has one, before the extensions.
 fn after_attributes<'a, PubKey: DecodeValue<'a>>(
@@ -32,18 +34,13 @@ fn after_attributes<'a, PubKey: DecodeValue<'a>>(
             Ok(None)
         }
         Version::V2 => {
-            let mut at = Cursor::new(bytes);
-            let Ok(field) = at.read_value() else {
+            let Some((content, rest)) = field_at(Tag::from_valid(PUBLIC_KEY), bytes) else {
                 return Err(Error::Malformed);
             };
-            if field.tag().byte() != PUBLIC_KEY {
-                return Err(Error::Malformed);
-            }
-            let mut content = Cursor::new(field.value());
-            let Ok(key) = PubKey::decode_value(&mut content) else {
+            let Ok(key) = PubKey::decode_value(&mut Cursor::new(content)) else {
                 return Err(Error::Malformed);
             };
-            if !are_extensions(at.rest()) {
+            if !are_extensions(rest) {
                 return Err(Error::Malformed);
             }
             Ok(Some(key))
@@ -51,32 +48,105 @@ fn after_attributes<'a, PubKey: DecodeValue<'a>>(
     }
 }
 
-/// Whether attributes stand at the front.
-fn begins_with_attributes(bytes: &[u8]) -> bool
-    ensures { IsTrue result ↔ BeginsWith 160 bytes.now }
+/// What stands between the private key and the extensions.
+#[derive(Drop)]
+pub(crate) struct Tail<Attrs, PubKey> {
+    pub(crate) attributes: Option<Attrs>,
+    pub(crate) public_key: Option<PubKey>,
+}
+
+/// The attributes where they stand at the front, and the public key where the version has one.
+pub(crate) fn after_key<'a, Attrs: DecodeValue<'a>, PubKey: DecodeValue<'a>>(
+    version: Version,
+    bytes: &'a [u8],
+) -> Result<Tail<Attrs, PubKey>>
+    ensures value { IfOk result (λ tail. AfterKey Attrs.HasContent PubKey.HasContent tail.attributes tail.public_key bytes.now) }
+    ensures version { IfOk result (λ tail. version_of tail.public_key ≡ version) }
+    ensures malformed { IfErr result (λ e. e ≡ Error.Malformed) }
+    ensures none { OnErr result ((t : Maybe Attrs) (k : Maybe PubKey) → version_of k ≡ version → AfterKey Attrs.HasContent PubKey.HasContent t k bytes.now → ⊥) }
 {
-    match bytes.first() {
-        Some(first) => *first == ATTRIBUTES,
-        None => false,
+    let Some((content, rest)) = field_at(Tag::from_valid(ATTRIBUTES), bytes) else {
+        let Ok(public_key) = after_attributes(version, bytes) else {
+            return Err(Error::Malformed);
+        };
+        return Ok(Tail {
+            attributes: None,
+            public_key,
+        });
+    };
+    let Ok(attributes) = Attrs::decode_value(&mut Cursor::new(content)) else {
+        return Err(Error::Malformed);
+    };
+    let Ok(public_key) = after_attributes(version, rest) else {
+        return Err(Error::Malformed);
+    };
+    Ok(Tail {
+        attributes: Some(attributes),
+        public_key,
+    })
+}
+
+/// The length of the public key's field, where there is one.
+fn public_key_len<PubKey: BitStringLike>(public_key: &Option<PubKey>) -> Result<Length>
+    ensures { LengthOf (optional_field public_key_tag PubKey.bits public_key.now) result }
+{
+    match public_key {
+        None => Ok(Length::new(0)),
+        Some(public_key) => tagged_len(&public_key.as_bit_string()),
     }
 }
 
-/// The public key where the version has one, behind the attributes.
-pub(crate) fn after_key<'a, PubKey: DecodeValue<'a>>(
-    version: Version,
-    bytes: &'a [u8],
-) -> Result<Option<PubKey>>
-    ensures value { IfOk result (λ k. AfterKey PubKey.HasContent k bytes.now) }
-    ensures version { IfOk result (λ k. version_of k ≡ version) }
-    ensures malformed { IfErr result (λ e. e ≡ Error.Malformed) }
-    ensures none { OnErr result ((k : Maybe PubKey) → version_of k ≡ version → AfterKey PubKey.HasContent k bytes.now → ⊥) }
+/// The length of what is written behind the private key.
+pub(crate) fn tail_len<Attrs: EncodeValue, PubKey: BitStringLike>(
+    attributes: &Option<Attrs>,
+    public_key: &Option<PubKey>,
+) -> Result<Length>
+    ensures { LengthOf (after_key_written Attrs.content PubKey.bits attributes.now public_key.now) result }
 {
-    if !begins_with_attributes(bytes) {
-        return after_attributes(version, bytes);
+    let public_key = public_key_len(public_key)?;
+    match attributes {
+        None => Ok(public_key),
+        Some(attributes) => tagged_len(attributes)?.checked_add(public_key),
     }
-    let mut at = Cursor::new(bytes);
-    let Ok(_) = at.read_value() else {
-        return Err(Error::Malformed);
-    };
-    after_attributes(version, at.rest())
+}
+
+/// Writes the public key's field, where there is one.
+fn encode_public_key<PubKey: BitStringLike, W: Writer>(
+    public_key: &Option<PubKey>,
+    writer: &mut W,
+) -> Result<()>
+    ensures wrote { Wrote W.HasTold W.refusals W.last_refusal writer.old writer.new (optional_field public_key_tag PubKey.bits public_key.now) result }
+    ensures count { W.refusals writer.old ≤ W.refusals writer.new }
+    ensures same_borrow { W.borrow writer.new ≡ W.borrow writer.old }
+{
+    match public_key {
+        None => Ok(()),
+        Some(public_key) => {
+            encode_tagged(
+                Tag::from_valid(PUBLIC_KEY),
+                &public_key.as_bit_string(),
+                writer,
+            )
+        },
+    }
+}
+
+/// Writes what stands behind the private key.
+pub(crate) fn encode_tail<Attrs: EncodeValue, PubKey: BitStringLike, W: Writer>(
+    attributes: &Option<Attrs>,
+    public_key: &Option<PubKey>,
+    writer: &mut W,
+) -> Result<()>
+    requires { length (after_key_written Attrs.content PubKey.bits attributes.now public_key.now) < 2 ^ 32 }
+    ensures wrote { Wrote W.HasTold W.refusals W.last_refusal writer.old writer.new (after_key_written Attrs.content PubKey.bits attributes.now public_key.now) result }
+    ensures count { W.refusals writer.old ≤ W.refusals writer.new }
+    ensures same_borrow { W.borrow writer.new ≡ W.borrow writer.old }
+{
+    match attributes {
+        None => encode_public_key(public_key, writer),
+        Some(attributes) => {
+            encode_tagged(Tag::from_valid(ATTRIBUTES), attributes, writer)?;
+            encode_public_key(public_key, writer)
+        }
+    }
 }

@@ -1,3 +1,5 @@
+mod attributes;
+mod callers;
 mod documents;
 mod errors;
 mod files;

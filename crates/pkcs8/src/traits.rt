@@ -15,11 +15,12 @@ use der_small::{BitString, BitStringRef, SecretDocument};
 use identity_io::Disk;
 use std::alloc::Global;
 
-/// What can be seen as a bit string.
+/// What can be seen as a bit string, as the public key of a private key is.
 pub trait BitStringLike {
     // The content of the bit string.
     ghost bits: { Self → List ℕ };
 
+    /// The bit string, in bytes that stay borrowed.
     fn as_bit_string(&self) -> BitStringRef<'_>
         ensures { bits_content (plain_bits_ref result) ≡ bits self.now };
 }
@@ -40,7 +41,7 @@ impl BitStringLike for BitString {
     }
 }
 
-/// A type that is read from the document of a private key.
+/// A type that is read from the document of a private key. A type of one algorithm's keys says by `TakesSome` which of the keys of `PrivateKeyInfoOwned` it takes, and has its two laws by `takes_some_one` and `takes_some_no_file`.
 pub trait DecodePrivateKey: Sized + Drop {
     // What contracts see of a key.
     ghost Plain: { Type 0 };
@@ -58,7 +59,7 @@ pub trait DecodePrivateKey: Sized + Drop {
 
     ghost no_file: { (bytes : List ℕ) (e : Refusal) → HasAnswer bytes (Err e) → IsOfAFile e → ⊥ };
 
-    /// Reads a key from a file, which is read as a document first.
+    /// Reads a key from a file, which is read as a document first. A file of more than 16,777,216 bytes is not read.
     final fn read_pkcs8_der_file<D: Disk>(alloc: Global, disk: &mut D, path: &str) -> Result<Self>
         ensures read { ForSome (D.files disk.old) (λ known. ReadsKeyFile plain HasAnswer (file_at path.now known) result) }
         ensures kept { D.files disk.new ≡ D.files disk.old }
@@ -68,7 +69,7 @@ pub trait DecodePrivateKey: Sized + Drop {
     }
 }
 
-/// A type that is written as the document of a private key.
+/// A type that is written as the document of a private key. Where it is written as a `PrivateKeyInfo` is, its law is `written_no_file`.
 pub trait EncodePrivateKey {
     // The one answer of each value: the bytes of its document, or why it has none.
     ghost document: { Self → Answer (List ℕ) Refusal };
@@ -79,7 +80,7 @@ pub trait EncodePrivateKey {
 
     ghost no_file: { (v : Self) (e : Refusal) → document v ≡ Err e → IsOfAFile e → ⊥ };
 
-    /// Writes the document of the key to a file. The file is not protected: that is the caller's to do.
+    /// Writes the document of the key to a file, which is not protected: that is the caller's to do. `StdDisk` makes a new file that all may read, as far as the mask of the process lets them, and leaves an old file its permissions. It empties an old file before it writes: after a fault the file may hold a first part of the document, or nothing, and the old key is gone.
     final fn write_pkcs8_der_file<D: Disk>(
         &self,
         alloc: Global,

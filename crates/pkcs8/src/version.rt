@@ -1,6 +1,6 @@
 //! The version of a private key.
 ghost use Rattle.std.specs.Prelude.{◌≡◌, ◌↔◌, ◌∷◌, [], IsTrue};
-ghost use Rattle.der_core.specs.Tags.{tag_2};
+ghost use Rattle.der_core.specs.Tags.{integer_tag, tag_2};
 ghost use Rattle.pkcs8.specs.Version.{version_byte};
 
 use crate::Error;
@@ -18,6 +18,7 @@ pub enum Version {
 }
 
 impl Version {
+    /// Whether a key of this version holds its public key.
     pub fn has_public_key(self) -> bool
         ensures { IsTrue result ↔ (self ≡ Version.V2) }
     {
@@ -43,7 +44,7 @@ impl fmt::Debug for Version {
 }
 
 impl FixedTag for Version {
-    ghost tag = { 2 };
+    ghost tag = { integer_tag };
 
     ghost tag_is_valid = { tag_2 };
 
@@ -58,11 +59,13 @@ impl<'a> DecodeValue<'a> for Version {
     ghost HasContent = { λ b v. b ≡ version_byte v ∷ [] };
 
     fn decode_value(cursor: &mut Cursor<'a>) -> der_small::Result<Self> {
-        match cursor.rest() {
-            [0] => Ok(Version::V1),
-            [1] => Ok(Version::V2),
-            _ => Err(der_small::Error::Malformed),
-        }
+        let version = match cursor.rest() {
+            [0] => Version::V1,
+            [1] => Version::V2,
+            _ => return Err(der_small::Error::Malformed),
+        };
+        cursor.take_rest();
+        Ok(version)
     }
 }
 

@@ -1,15 +1,16 @@
 -- Where the fields of a sequence cannot be read, it stands for no value.
-use Rattle.std.proofs.Common.{◌≡◌, ◌↔◌, ℕ, List, [], Bool, true, false, Option, Some, None, sym}
+use Rattle.std.proofs.Common.{◌≡◌, ℕ, List, [], Option, Some, None, sym}
 use Rattle.std.proofs.lemmas.List.{append-nil}
 use Rattle.der_core.specs.Der.{IsValue}
-use Rattle.der_core.specs.Decode.{Front, NoFront, ReadsTagged, ReadsTagged-one_value}
+use Rattle.der_core.specs.Decode.{Front, NoFront, ReadsTagged-one_value}
 use Rattle.der_core.specs.Tags.{tag_6, tag_48}
 use Rattle.der_core.specs.declared.oid.ObjectIdentifier.{ObjectIdentifier}
-use Rattle.der_core.proofs.Sequences.{then_same, then_none, one_front}
+use Rattle.der_core.specs.SequenceLaws.{more_than_two, no_second_of_two, one_front, then_none, then_same}
+use Rattle.der_core.specs.Sequence.{Last}
 use Rattle.spki.specs.declared.algorithm.AlgorithmIdentifier.{AlgorithmIdentifier}
 use Rattle.spki.specs.declared.spki.SubjectPublicKeyInfo.{SubjectPublicKeyInfo}
-use Rattle.spki.specs.Algorithm.{ReadsOid, AreParameters, AlgorithmContent}
-use Rattle.spki.specs.PublicKey.{Last, PublicKeyContent}
+use Rattle.spki.specs.Algorithm.{ReadsOid, AreParameters, AlgorithmContent, ReadsAlgorithmIdentifier}
+use Rattle.spki.specs.PublicKey.{PublicKeyContent}
 
 oid_value : (b : List ℕ) (o : ObjectIdentifier) → ReadsOid b o → IsValue b
 oid_value b o r = ReadsTagged-one_value 6 _ b o tag_6 r
@@ -33,20 +34,14 @@ pub more_follows : {P : Type 0} (Reads : List ℕ → P → Type 0) (s rest end 
 more_follows Reads s rest end o p law f f' first some v c =
     left_over Reads rest end p v.parameters law f' first some (then_same ReadsOid (AreParameters Reads v.parameters) s rest o v.oid oid_value f c).next
 
-pub unfinished : {P : Type 0} (b : Bool) → (b ≡ true) ↔ P → b ≡ false → P → ⊥
-unfinished true iff e p = cc
-unfinished false iff e p = let is : false ≡ true = iff.1 p in cc
-
-algorithm_value : {P : Type 0} (Reads : List ℕ → P → Type 0) (b : List ℕ) (v : AlgorithmIdentifier P) → ReadsTagged 48 (AlgorithmContent Reads) b v → IsValue b
+algorithm_value : {P : Type 0} (Reads : List ℕ → P → Type 0) (b : List ℕ) (v : AlgorithmIdentifier P) → ReadsAlgorithmIdentifier Reads b v → IsValue b
 algorithm_value Reads b v r = ReadsTagged-one_value 48 _ b v tag_48 r
 
-pub no_algorithm : {P K : Type 0} (ReadsP : List ℕ → P → Type 0) (ReadsK : List ℕ → K → Type 0) (s : List ℕ) → NoFront (ReadsTagged 48 (AlgorithmContent ReadsP)) s → (v : SubjectPublicKeyInfo P K) → PublicKeyContent ReadsP ReadsK s v → ⊥
-no_algorithm ReadsP ReadsK s none v c = then_none (ReadsTagged 48 (AlgorithmContent ReadsP)) (Last ReadsK v.subject_public_key) s v.algorithm none c
+pub no_algorithm : {P K : Type 0} (ReadsP : List ℕ → P → Type 0) (ReadsK : List ℕ → K → Type 0) (s : List ℕ) → NoFront (ReadsAlgorithmIdentifier ReadsP) s → (v : SubjectPublicKeyInfo P K) → PublicKeyContent ReadsP ReadsK s v → ⊥
+no_algorithm ReadsP ReadsK s none v c = then_none (ReadsAlgorithmIdentifier ReadsP) (Last ReadsK v.subject_public_key) s v.algorithm none c
 
-pub no_key : {P K : Type 0} (ReadsP : List ℕ → P → Type 0) (ReadsK : List ℕ → K → Type 0) (s rest : List ℕ) (a : AlgorithmIdentifier P) → Front (ReadsTagged 48 (AlgorithmContent ReadsP)) s rest a → NoFront ReadsK rest → (v : SubjectPublicKeyInfo P K) → PublicKeyContent ReadsP ReadsK s v → ⊥
-no_key ReadsP ReadsK s rest a f none v c =
-    none rest [] v.subject_public_key (then_same (ReadsTagged 48 (AlgorithmContent ReadsP)) (Last ReadsK v.subject_public_key) s rest a v.algorithm (algorithm_value ReadsP) f c).next (sym (append-nil rest))
+pub no_key : {P K : Type 0} (ReadsP : List ℕ → P → Type 0) (ReadsK : List ℕ → K → Type 0) (s rest : List ℕ) (a : AlgorithmIdentifier P) → Front (ReadsAlgorithmIdentifier ReadsP) s rest a → NoFront ReadsK rest → (v : SubjectPublicKeyInfo P K) → PublicKeyContent ReadsP ReadsK s v → ⊥
+no_key ReadsP ReadsK s rest a f none v c = no_second_of_two (ReadsAlgorithmIdentifier ReadsP) ReadsK (algorithm_value ReadsP) s rest a f none v.algorithm v.subject_public_key c
 
-pub more_than_key : {P K : Type 0} (ReadsP : List ℕ → P → Type 0) (ReadsK : List ℕ → K → Type 0) (s rest end : List ℕ) (a : AlgorithmIdentifier P) (k : K) → ((b : List ℕ) (v : K) → ReadsK b v → IsValue b) → Front (ReadsTagged 48 (AlgorithmContent ReadsP)) s rest a → Front ReadsK rest end k → (end ≡ [] → ⊥) → (v : SubjectPublicKeyInfo P K) → PublicKeyContent ReadsP ReadsK s v → ⊥
-more_than_key ReadsP ReadsK s rest end a k law f f' some v c =
-    some (one_front ReadsK rest end k v.subject_public_key law f' (then_same (ReadsTagged 48 (AlgorithmContent ReadsP)) (Last ReadsK v.subject_public_key) s rest a v.algorithm (algorithm_value ReadsP) f c).next)
+pub more_than_key : {P K : Type 0} (ReadsP : List ℕ → P → Type 0) (ReadsK : List ℕ → K → Type 0) (s rest end : List ℕ) (a : AlgorithmIdentifier P) (k : K) → ((b : List ℕ) (v : K) → ReadsK b v → IsValue b) → Front (ReadsAlgorithmIdentifier ReadsP) s rest a → Front ReadsK rest end k → (end ≡ [] → ⊥) → (v : SubjectPublicKeyInfo P K) → PublicKeyContent ReadsP ReadsK s v → ⊥
+more_than_key ReadsP ReadsK s rest end a k law f f' some v c = more_than_two (ReadsAlgorithmIdentifier ReadsP) ReadsK (algorithm_value ReadsP) law s rest end a k f f' some v.algorithm v.subject_public_key c

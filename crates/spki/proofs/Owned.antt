@@ -4,6 +4,7 @@ use Rattle.der_core.specs.Any.{PlainAny, plain_ref, der_of}
 use Rattle.der_core.specs.Decode.{ReadsTagged, ReadsAny}
 use Rattle.der_core.specs.Der.{IsTag, encode}
 use Rattle.der_core.specs.Laws.{any_reads_encoding, any_encoding_reads, tagged_reads_encoding, tagged_encoding_reads, content_fits}
+use Rattle.der_core.specs.SequenceLaws.{front_fits, rest_fits}
 use Rattle.der_core.specs.ObjectIdentifier.{oid_content}
 use Rattle.der_core.specs.declared.any.AnyRef.{AnyRef}
 use Rattle.der_core.proofs.Owned.{SameReads}
@@ -14,7 +15,6 @@ use Rattle.spki.specs.declared.algorithm.AlgorithmIdentifier.{AlgorithmIdentifie
 use Rattle.spki.specs.declared.spki.SubjectPublicKeyInfo.{SubjectPublicKeyInfo}
 use Rattle.spki.specs.Algorithm.{AlgorithmContent, optional_bytes, algorithm_content}
 use Rattle.spki.specs.AlgorithmLaws.{algorithm_reads_content, algorithm_content_reads}
-use Rattle.spki.specs.Parts.{front_fits, rest_fits}
 use Rattle.spki.specs.PlainAlgorithm.{PlainAlgorithm, IsAlgorithm, ReadsAlgorithm, algorithm_der, plain_algorithm}
 use Rattle.spki.specs.PlainPublicKey.{PlainPublicKey, IsPublicKey, ReadsPublicKey, public_key_der, plain_public_key_ref}
 use Rattle.spki.specs.PublicKey.{PublicKeyContent, public_key_content}
@@ -83,16 +83,16 @@ borrows_algorithm any = record { of = algorithm_of any; is = algorithm_is any }
 abbrev pub ReadsAlgorithmRef : List ℕ → AlgorithmIdentifier AnyRef → Type 0
 ReadsAlgorithmRef = ReadsTagged 48 (AlgorithmContent (λ b (v : AnyRef). ReadsAny b v.tag.byte v.value.now))
 
-abbrev pub algorithm_encoding : AlgorithmIdentifier AnyRef → List ℕ
-algorithm_encoding v = encode 48 (algorithm_content (λ (v : AnyRef). encode v.tag.byte v.value.now) v)
+abbrev pub algorithm_ref_encoding : AlgorithmIdentifier AnyRef → List ℕ
+algorithm_ref_encoding v = encode 48 (algorithm_content (λ (v : AnyRef). encode v.tag.byte v.value.now) v)
 
-pub algorithm_written : (b : List ℕ) (v : AlgorithmIdentifier AnyRef) → ReadsAlgorithmRef b v → b ≡ algorithm_encoding v
+pub algorithm_written : (b : List ℕ) (v : AlgorithmIdentifier AnyRef) → ReadsAlgorithmRef b v → b ≡ algorithm_ref_encoding v
 algorithm_written = tagged_reads_encoding 48 _ _ (algorithm_reads_content _ _ (λ b v r. any_reads_encoding b v.tag.byte v.value.now r))
 
-pub algorithm_read : (v : AlgorithmIdentifier AnyRef) → length (algorithm_encoding v) < 2 ^ 32 → ReadsAlgorithmRef (algorithm_encoding v) v
+pub algorithm_read : (v : AlgorithmIdentifier AnyRef) → length (algorithm_ref_encoding v) < 2 ^ 32 → ReadsAlgorithmRef (algorithm_ref_encoding v) v
 algorithm_read = tagged_encoding_reads 48 _ _ (algorithm_content_reads _ _ (λ v fits. any_encoding_reads v.tag.byte v.value.now fits))
 
-pub algorithm_seen : (v : AlgorithmIdentifier AnyRef) → algorithm_encoding v ≡ algorithm_der (plain_algorithm plain_ref v)
+pub algorithm_seen : (v : AlgorithmIdentifier AnyRef) → algorithm_ref_encoding v ≡ algorithm_der (plain_algorithm plain_ref v)
 algorithm_seen v = ap (λ (x : List ℕ). encode 48 (encode 6 (oid_content v.oid) ++ x)) (optional_map v.parameters)
 
 pub algorithm_lawful : (v : AlgorithmIdentifier AnyRef) → IsAlgorithm (plain_algorithm plain_ref v)
@@ -103,7 +103,7 @@ algorithm_plain b v r = record { is = algorithm_written b v r ∙ algorithm_seen
 
 pub same_algorithms : BorrowsAny → SameReads ReadsAlgorithmRef ReadsAlgorithm
 same_algorithms any =
-    same_written ReadsAlgorithmRef algorithm_encoding (plain_algorithm plain_ref) algorithm_der IsAlgorithm algorithm_written (λ b v r. r.fits) algorithm_read algorithm_seen algorithm_lawful (borrows_algorithm any)
+    same_written ReadsAlgorithmRef algorithm_ref_encoding (plain_algorithm plain_ref) algorithm_der IsAlgorithm algorithm_written (λ b v r. r.fits) algorithm_read algorithm_seen algorithm_lawful (borrows_algorithm any)
 
 -- Public keys.
 abbrev pub BorrowsBits : Type 0

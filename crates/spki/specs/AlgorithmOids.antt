@@ -4,6 +4,7 @@ use Rattle.der_core.specs.Any.{PlainAny}
 use Rattle.der_core.specs.Oid.{IsOidContent}
 use Rattle.der_core.specs.ObjectIdentifier.{oid_content}
 use Rattle.der_core.specs.Tag.{byte_of}
+use Rattle.der_core.specs.Tags.{null_tag, oid_tag}
 use Rattle.der_core.specs.declared.oid.ObjectIdentifier.{ObjectIdentifier}
 use Rattle.der_core.specs.declared.error.Error.{Error as DerError}
 use Rattle.der_core.specs.declared.error.Error.TheVariants as der
@@ -12,13 +13,13 @@ use Rattle.spki.specs.declared.error.Error.TheVariants as error
 
 -- Why a value of any tag is no object identifier: its tag, or else its content.
 abbrev pub IsNoOid : PlainAny → DerError → Type 0
-IsNoOid v (der.TagUnexpected expected actual) = (v.tag ≢ 6) × (byte_of expected ≡ 6) × (byte_of actual ≡ v.tag)
-IsNoOid v der.Malformed = (v.tag ≡ 6) × (IsOidContent v.content → ⊥)
+IsNoOid v (der.TagUnexpected expected actual) = (v.tag ≢ oid_tag) × (byte_of expected ≡ oid_tag) × (byte_of actual ≡ v.tag)
+IsNoOid v der.Malformed = (v.tag ≡ oid_tag) × (IsOidContent v.content → ⊥)
 IsNoOid v _ = ⊥
 
 -- The value is an object identifier.
 abbrev pub IsOid : PlainAny → ObjectIdentifier → Type 0
-IsOid v oid = (v.tag ≡ 6) × (oid_content oid ≡ v.content)
+IsOid v oid = (v.tag ≡ oid_tag) × (oid_content oid ≡ v.content)
 
 -- The parameters as an object identifier, or why they are none.
 abbrev pub ParametersOid : Option PlainAny → Result ObjectIdentifier Error → Type 0
@@ -29,7 +30,7 @@ ParametersOid (Some v) (Err _) = ⊥
 
 -- NULL (X.690, 8.8).
 abbrev pub IsNull : PlainAny → Type 0
-IsNull v = v ≡ record { tag = 5; content = [] }
+IsNull v = v ≡ record { tag = null_tag; content = [] }
 
 -- What parameters name: nothing where they are NULL, else an object identifier.
 abbrev pub Names : PlainAny → Option ObjectIdentifier → Type 0

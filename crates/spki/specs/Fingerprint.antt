@@ -3,6 +3,7 @@ use Rattle.std.specs.Prelude.{◌≡◌, ℕ, ◌≤◌, ◌^◌, true, List, le
 use Rattle.base64_alphabet.specs.Encoding.{encoding_of}
 use Rattle.base64_alphabet.specs.Group.{High}
 use Rattle.base64_alphabet.specs.Standard.{standard}
+use Rattle.sha2.specs.Sha256.{sha256}
 use Rattle.der_core.specs.declared.error.Error.TheVariants as der
 use Rattle.spki.specs.declared.error.Error.{Error}
 use Rattle.spki.specs.declared.error.Error.TheVariants as error
@@ -10,6 +11,10 @@ use Rattle.spki.specs.declared.error.Error.TheVariants as error
 -- The padded Base64 of a list of bytes (RFC 4648, 4).
 abbrev pub base64_text : List ℕ → List ℕ
 base64_text bytes = encoding_of High standard true bytes
+
+-- The fingerprint of a public key with this document, as people compare it.
+abbrev pub fingerprint_of : List ℕ → List ℕ
+fingerprint_of document = base64_text (sha256 document)
 
 -- Why an encoding has no fingerprint and no document.
 abbrev pub IsOverlength : List ℕ → Error → Type 0

@@ -7,10 +7,11 @@ pub mod Error
 pub mod Fingerprint
 pub mod Identifier
 pub mod KeyFiles
-pub mod Parts
 pub mod PlainAlgorithm
 pub mod PlainPublicKey
 pub mod PublicKey
 pub mod PublicKeyLaws
 pub mod ReadLaws
+pub mod Same
+pub mod SomeKeys
 pub mod Written

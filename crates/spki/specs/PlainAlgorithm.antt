@@ -4,6 +4,7 @@ use Rattle.der_core.specs.Any.{PlainAny, der_of}
 use Rattle.der_core.specs.Der.{IsTag, encode}
 use Rattle.der_core.specs.Oid.{IsOidContent}
 use Rattle.der_core.specs.ObjectIdentifier.{oid_content}
+use Rattle.der_core.specs.Tags.{oid_tag, sequence_tag}
 use Rattle.spki.specs.declared.algorithm.AlgorithmIdentifier.{AlgorithmIdentifier}
 use Rattle.spki.specs.Algorithm.{optional_bytes}
 use Rattle.spki.specs.Written.{ReadsDer}
@@ -19,7 +20,7 @@ pub record IsAlgorithm (v : PlainAlgorithm) : Type 0 where
 
 -- Its encoding (RFC 5280, 4.1.1.2).
 abbrev pub algorithm_der : PlainAlgorithm → List ℕ
-algorithm_der v = encode 48 (encode 6 v.oid ++ optional_bytes der_of v.parameters)
+algorithm_der v = encode sequence_tag (encode oid_tag v.oid ++ optional_bytes der_of v.parameters)
 
 -- The bytes are its encoding.
 abbrev pub ReadsAlgorithm : List ℕ → PlainAlgorithm → Type 0

@@ -2,6 +2,7 @@
 use Rattle.std.specs.Prelude.{ℕ, List, ◌∷◌, ◌++◌}
 use Rattle.der_core.specs.Any.{plain_ref, plain_any}
 use Rattle.der_core.specs.Der.{encode}
+use Rattle.der_core.specs.Tags.{bit_string_tag, sequence_tag}
 use Rattle.der_small.specs.Bits.{PlainBits, AreBits}
 use Rattle.der_small.specs.BitString.{plain_bits_ref, plain_bits}
 use Rattle.der_small.specs.declared.bit_string.BitStringRef.{BitStringRef}
@@ -23,7 +24,7 @@ pub record IsPublicKey (v : PlainPublicKey) : Type 0 where
 
 -- Its encoding (RFC 5280, 4.1.2.7).
 abbrev pub public_key_der : PlainPublicKey → List ℕ
-public_key_der v = encode 48 (algorithm_der v.algorithm ++ encode 3 (v.key.unused_bits ∷ v.key.octets))
+public_key_der v = encode sequence_tag (algorithm_der v.algorithm ++ encode bit_string_tag (v.key.unused_bits ∷ v.key.octets))
 
 -- The bytes are its encoding.
 abbrev pub ReadsPublicKey : List ℕ → PlainPublicKey → Type 0

@@ -1,10 +1,10 @@
 //! Algorithm identifiers.
-ghost use Rattle.std.specs.Prelude.{◌≡◌, ◌≢◌, ℕ, List, None, Some, IfOk, IfErr, OnOk, MatchResult};
+ghost use Rattle.std.specs.Prelude.{◌≡◌, ◌≢◌, ℕ, List, None, Some, IfOk, IfErr, OnOk, OnErr, MatchResult};
 ghost use Rattle.der_core.specs.Any.{plain_ref, plain_any};
 ghost use Rattle.der_core.specs.Decode.{FromDerOwned};
 ghost use Rattle.der_core.specs.ObjectIdentifier.{oid_content};
 ghost use Rattle.der_core.specs.Order.{and_then, option_order};
-ghost use Rattle.der_core.specs.Tags.{tag_48};
+ghost use Rattle.der_core.specs.Tags.{sequence_tag, tag_48};
 ghost use Rattle.spki.specs.Algorithm.{AlgorithmContent, algorithm_content};
 ghost use Rattle.spki.specs.AlgorithmLaws.{algorithm_reads_content, algorithm_content_reads};
 ghost use Rattle.spki.specs.AlgorithmOids.{ParametersOid, AreOids, WantedParameters, WantedOids};
@@ -38,14 +38,14 @@ pub type AlgorithmIdentifierWithOid = AlgorithmIdentifier<ObjectIdentifier>;
 pub type AlgorithmIdentifierOwned = AlgorithmIdentifier<Any>;
 
 impl<Params> FixedTag for AlgorithmIdentifier<Params> {
-    ghost tag = { 48 };
+    ghost tag = { sequence_tag };
 
     ghost tag_is_valid = { tag_48 };
 
     const TAG: u8 = Tag::SEQUENCE;
 
     fn tag_byte() -> u8
-        ensures { result ≡ 48 }
+        ensures { result ≡ sequence_tag }
     {
         Tag::SEQUENCE
     }
@@ -60,6 +60,7 @@ impl<'a, Params: Choice<'a>> DecodeValue<'a> for AlgorithmIdentifier<Params> {
             return Err(der_small::Error::Malformed);
         };
         if at.is_finished() {
+            cursor.take_rest();
             return Ok(AlgorithmIdentifier {
                 oid,
                 parameters: None,
@@ -71,6 +72,7 @@ impl<'a, Params: Choice<'a>> DecodeValue<'a> for AlgorithmIdentifier<Params> {
         if !at.is_finished() {
             return Err(der_small::Error::Malformed);
         }
+        cursor.take_rest();
         Ok(AlgorithmIdentifier {
             oid,
             parameters: Some(parameters),
@@ -117,6 +119,19 @@ impl<Params: DerOrd> ValueOrd for AlgorithmIdentifier<Params> {
     }
 }
 
+/// The identifier that is held, where it is the one that is wanted.
+fn only_wanted(held: ObjectIdentifier, wanted: ObjectIdentifier) -> Result<ObjectIdentifier>
+    ensures value { IfOk result (λ oid. oid ≡ held) }
+    ensures same { OnOk result (oid_content held ≡ oid_content wanted) }
+    ensures unknown { IfErr result (λ e. e ≡ Error.OidUnknown held) }
+    ensures differs { OnErr result (oid_content held ≢ oid_content wanted) }
+{
+    if held != wanted {
+        return Err(Error::OidUnknown { oid: held });
+    }
+    Ok(held)
+}
+
 impl<Params> AlgorithmIdentifier<Params> {
     /// Takes the identifier only if it is the one that the caller can work with.
     pub fn assert_algorithm_oid(&self, expected_oid: ObjectIdentifier) -> Result<ObjectIdentifier>
@@ -125,11 +140,7 @@ impl<Params> AlgorithmIdentifier<Params> {
         ensures unknown { IfErr result (λ e. e ≡ Error.OidUnknown self.now.oid) }
         ensures differs { IfErr result (λ _. oid_content self.now.oid ≢ oid_content expected_oid) }
     {
-        if self.oid == expected_oid {
-            Ok(expected_oid)
-        } else {
-            Err(Error::OidUnknown { oid: self.oid })
-        }
+        only_wanted(self.oid, expected_oid)
     }
 }
 
@@ -138,12 +149,7 @@ impl<'a> AlgorithmIdentifier<AnyRef<'a>> {
     pub fn assert_parameters_oid(&self, expected_oid: ObjectIdentifier) -> Result<ObjectIdentifier>
         ensures { WantedParameters (plain_algorithm plain_ref self.now).parameters (oid_content expected_oid) result }
     {
-        let actual_oid = self.parameters_oid()?;
-        if actual_oid == expected_oid {
-            Ok(actual_oid)
-        } else {
-            Err(Error::OidUnknown { oid: actual_oid })
-        }
+        only_wanted(self.parameters_oid()?, expected_oid)
     }
 
     /// Takes both, the algorithm first.
@@ -196,6 +202,7 @@ impl<'a> AlgorithmIdentifier<AnyRef<'a>> {
         Ok((self.oid, parameters))
     }
 
+    /// The same identifier with bytes of its own, for when the input doesn't live long enough.
     pub fn ref_to_owned(&self, alloc: Global) -> Result<AlgorithmIdentifierOwned>
         ensures { MatchResult result (λ v. plain_algorithm plain_any v ≡ plain_algorithm plain_ref self.now) (λ e. e ≡ Error.OutOfMemory) }
     {
@@ -224,6 +231,7 @@ impl AlgorithmIdentifier<Any> {
         }
     }
 
+    /// The same identifier in borrowed bytes, which has the calls on parameters.
     pub fn owned_to_ref(&self) -> AlgorithmIdentifierRef<'_>
         ensures { plain_algorithm plain_ref result ≡ plain_algorithm plain_any self.now }
     {
@@ -236,6 +244,7 @@ impl AlgorithmIdentifier<Any> {
 
 /// What can be seen as an identifier in borrowed bytes.
 pub trait AsAlgorithmIdentifierRef {
+    // What contracts see of the identifier.
     ghost algorithm: { Self → PlainAlgorithm };
 
     /// The identifier, which keeps what it was taken from borrowed.

@@ -2,7 +2,7 @@
 ghost use Rattle.std.specs.Prelude.{◌≡◌, ℕ, List, MatchResult};
 ghost use Rattle.der_core.specs.Decode.{FromDerOwned};
 ghost use Rattle.der_core.specs.Order.{and_then};
-ghost use Rattle.der_core.specs.Tags.{tag_48};
+ghost use Rattle.der_core.specs.Tags.{sequence_tag, tag_48};
 ghost use Rattle.spki.specs.PlainPublicKey.{plain_public_key, plain_public_key_ref, ReadsPublicKey};
 ghost use Rattle.spki.specs.PublicKey.{PublicKeyContent, public_key_content};
 ghost use Rattle.spki.specs.PublicKeyLaws.{public_key_reads_content, public_key_content_reads};
@@ -37,14 +37,14 @@ pub type SubjectPublicKeyInfoRef<'a> = SubjectPublicKeyInfo<AnyRef<'a>, BitStrin
 pub type SubjectPublicKeyInfoOwned = SubjectPublicKeyInfo<Any, BitString>;
 
 impl<Params, Key> FixedTag for SubjectPublicKeyInfo<Params, Key> {
-    ghost tag = { 48 };
+    ghost tag = { sequence_tag };
 
     ghost tag_is_valid = { tag_48 };
 
     const TAG: u8 = Tag::SEQUENCE;
 
     fn tag_byte() -> u8
-        ensures { result ≡ 48 }
+        ensures { result ≡ sequence_tag }
     {
         Tag::SEQUENCE
     }
@@ -65,6 +65,7 @@ impl<'a, Params: Choice<'a>, Key: Decode<'a>> DecodeValue<'a>
         if !at.is_finished() {
             return Err(der_small::Error::Malformed);
         }
+        cursor.take_rest();
         Ok(SubjectPublicKeyInfo {
             algorithm,
             subject_public_key,
@@ -109,12 +110,12 @@ impl<Params: Encode, Key: Encode> SubjectPublicKeyInfo<Params, Key> {
     ghost use Rattle.std.specs.Prelude.{◌<◌, ◌^◌, length, IfOk, IfErr, OnOk, string_bytes};
     ghost use Rattle.der_small.specs.Document.{document_bytes};
     ghost use Rattle.sha2.specs.Sha256.{sha256};
-    ghost use Rattle.spki.specs.Fingerprint.{base64_text, IsOverlength, IsOverlengthOrMemory};
+    ghost use Rattle.spki.specs.Fingerprint.{fingerprint_of, IsOverlength, IsOverlengthOrMemory};
     ghost use Rattle.spki.specs.PublicKey.{public_key_encoding};
 
     /// The fingerprint as people compare it: 44 characters of padded Base64.
     pub fn fingerprint_base64(&self, alloc: Global) -> Result<String>
-        ensures value { IfOk result (λ text. string_bytes text ≡ base64_text (sha256 (public_key_encoding Params.encoding Key.encoding self.now))) }
+        ensures value { IfOk result (λ text. string_bytes text ≡ fingerprint_of (public_key_encoding Params.encoding Key.encoding self.now)) }
         ensures len { IfOk result (λ text. length (string_bytes text) ≡ 44) }
         ensures fits { OnOk result (length (public_key_encoding Params.encoding Key.encoding self.now) < 2 ^ 32) }
         ensures overlength { IfErr result (IsOverlengthOrMemory (public_key_encoding Params.encoding Key.encoding self.now)) }
@@ -150,6 +151,7 @@ impl<Params: Encode, Key: Encode> SubjectPublicKeyInfo<Params, Key> {
 }
 
 impl<'a> SubjectPublicKeyInfo<AnyRef<'a>, BitStringRef<'a>> {
+    /// The same key with bytes of its own, for when the input doesn't live long enough.
     pub fn ref_to_owned(&self, alloc: Global) -> Result<SubjectPublicKeyInfoOwned>
         ensures { MatchResult result (λ v. plain_public_key v ≡ plain_public_key_ref self.now) (λ e. e ≡ Error.OutOfMemory) }
     {
@@ -184,6 +186,7 @@ impl SubjectPublicKeyInfo<Any, BitString> {
         }
     }
 
+    /// The same key in borrowed bytes.
     pub fn owned_to_ref(&self) -> SubjectPublicKeyInfoRef<'_>
         ensures { plain_public_key_ref result ≡ plain_public_key self.now }
     {

@@ -1,2 +1,5 @@
+mod callers;
 mod documents;
+mod errors;
+mod files;
 mod identifiers;

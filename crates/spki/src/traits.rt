@@ -17,7 +17,7 @@ use der_small::{Any, BitString, Document, Encode};
 use identity_io::Disk;
 use std::alloc::Global;
 
-/// A type that is read from the document of a public key.
+/// A type that is read from the document of a public key. A type of one algorithm's keys says by `TakesSome` which of the keys of `SubjectPublicKeyInfoOwned` it takes, and has its two laws by `takes_some_one` and `takes_some_no_file`.
 pub trait DecodePublicKey: Sized + Drop {
     // What contracts see of a key.
     ghost Plain: { Type 0 };
@@ -35,7 +35,7 @@ pub trait DecodePublicKey: Sized + Drop {
 
     ghost no_file: { (bytes : List ℕ) (e : Refusal) → HasAnswer bytes (Err e) → IsOfAFile e → ⊥ };
 
-    /// Reads a key from a file, which is read as a document first.
+    /// Reads a key from a file, which is read as a document first. A file of more than 16,777,216 bytes is not read.
     final fn read_public_key_der_file<D: Disk>(
         alloc: Global,
         disk: &mut D,
@@ -49,7 +49,7 @@ pub trait DecodePublicKey: Sized + Drop {
     }
 }
 
-/// A type that is written as the document of a public key.
+/// A type that is written as the document of a public key. Where it is written as a `SubjectPublicKeyInfo` is, its law is `written_no_file`.
 pub trait EncodePublicKey {
     // The one answer of each value: the bytes of its document, or why it has none.
     ghost document: { Self → Answer (List ℕ) Refusal };
@@ -60,7 +60,7 @@ pub trait EncodePublicKey {
 
     ghost no_file: { (v : Self) (e : Refusal) → document v ≡ Err e → IsOfAFile e → ⊥ };
 
-    /// Writes the document of the key to a file.
+    /// Writes the document of the key to a file. `StdDisk` makes a new file that all may read, as far as the mask of the process lets them, and leaves an old file its permissions. It empties an old file before it writes: after a fault the file may hold a first part of the document, or nothing.
     final fn write_public_key_der_file<D: Disk>(
         &self,
         alloc: Global,

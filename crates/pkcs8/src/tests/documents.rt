@@ -1,10 +1,19 @@
-use crate::{
-    BitStringLike, DecodePrivateKey, EncodePrivateKey, PrivateKeyInfo, PrivateKeyInfoOwned,
-    PrivateKeyInfoRef, Version, equal_keys_are_equal_in_each_part, equal_keys_have_equal_parts,
-    read_keys_are_read_again, read_keys_are_written_alike, shown_keys_hide_private_octets,
+use crate::laws::{
+    copied_errors_are_the_same, copied_keys_are_the_same, equal_attributes_are_the_same,
+    equal_keys_are_equal_in_each_part, equal_keys_are_the_same, read_keys_are_read_again,
+    read_keys_are_written_alike, same_keys_are_equal, shown_keys_hide_octets_and_attributes,
     written_keys_are_read,
 };
-use der_small::{AnyRef, BitStringRef, Decode, Encode, ObjectIdentifier, OctetStringRef};
+use crate::{
+    AttributesRef, BitStringLike, DecodePrivateKey, EncodePrivateKey, PrivateKeyInfo,
+    PrivateKeyInfoOwned, PrivateKeyInfoRef, Version,
+};
+use der_small::{
+    AnyRef, BitStringRef, Decode, Encode, EncodeValue, FixedTag, ObjectIdentifier, OctetStringRef,
+};
+use spki::AlgorithmIdentifierRef;
+use std::alloc::Global;
+use std::process::Abort;
 use std::test::Fail;
 
 // The worked document of an Ed25519 key (RFC 8410, section 7): 32 octets 11.
@@ -21,51 +30,6 @@ pub(super) const ED25519: [u8; 48] = [
     0x82, 0x02, 0xcd, 0x5e, 0x4c, 0x4e, 0x5b, 0x0b, 0x5b, 0x82, 0xc3, 0xcb, 0x37, 0xc0, 0x0d, 0x66,
 ];
 
-#[test]
-fn a_key_in_all_its_forms(rt: HostRuntime) -> Result<(), Fail> {
-    let key = PrivateKeyInfoRef::from_der(&WORKED)?;
-    assert_eq!(rt; key.version(), Version::V1);
-    assert_eq!(rt; key.algorithm.oid.as_bytes(), [0x2b, 0x65, 0x70].as_slice());
-    assert_eq!(rt; key.private_key.as_bytes(), &WORKED[14..]);
-    assert_eq!(rt; key.to_der(rt.alloc())?.as_slice(), WORKED.as_slice());
-    let document = key.to_secret_document(rt.alloc())?;
-    assert_eq!(rt; document.as_bytes(), WORKED.as_slice());
-    assert_eq!(rt;
-        format!(in rt.alloc(); "{document:?}")?.as_str(),
-        "SecretDocument { len: 48 }"
-    );
-    let document = key.to_pkcs8_der(rt.alloc())?;
-    assert_eq!(rt; document.as_bytes(), WORKED.as_slice());
-    let made: PrivateKeyInfoRef = PrivateKeyInfo::new(key.algorithm, key.private_key);
-    assert_eq!(rt; made, key);
-    Ok(())
-}
-
-#[test]
-fn a_key_with_bytes_of_its_own(rt: HostRuntime) -> Result<(), Fail> {
-    let key = PrivateKeyInfoRef::from_der(&WORKED)?;
-    let owned = key.ref_to_owned(rt.alloc())?;
-    assert_eq!(rt; owned, PrivateKeyInfoOwned::from_der(rt.alloc(), &WORKED)?);
-    assert_eq!(rt;
-        owned,
-        PrivateKeyInfoOwned::from_pkcs8_der(rt.alloc(), &WORKED)?
-    );
-    assert_eq!(rt; owned.version(), Version::V1);
-    assert_eq!(rt; owned.owned_to_ref(), key);
-    let document = owned.to_pkcs8_der(rt.alloc())?;
-    assert_eq!(rt; document.as_bytes(), WORKED.as_slice());
-    Ok(())
-}
-
-#[test]
-fn a_key_by_openssl(rt: HostRuntime) -> Result<(), Fail> {
-    let key = PrivateKeyInfoRef::from_der(&ED25519)?;
-    assert_eq!(rt; key.version(), Version::V1);
-    assert_eq!(rt; key.private_key.as_bytes(), &ED25519[14..]);
-    assert_eq!(rt; key.to_der(rt.alloc())?.as_slice(), ED25519.as_slice());
-    Ok(())
-}
-
 // By `openssl genpkey -algorithm EC -pkeyopt ec_paramgen_curve:P-256` and
 // `openssl pkcs8 -topk8 -nocrypt -outform DER`. Its public key stands inside the octets (RFC 5915, section 3).
 pub(super) const P256: [u8; 138] = [
@@ -80,41 +44,8 @@ pub(super) const P256: [u8; 138] = [
     0xc1, 0xf5, 0x67, 0xa3, 0xa1, 0x55, 0xab, 0xc2, 0xe8, 0x7b,
 ];
 
-#[test]
-fn a_key_with_parameters(rt: HostRuntime) -> Result<(), Fail> {
-    let key = PrivateKeyInfoOwned::from_der(rt.alloc(), &P256)?;
-    assert_eq!(rt; key.version(), Version::V1);
-    let (algorithm, curve) = key.algorithm.owned_to_ref().oids()?;
-    assert_eq!(rt;
-        format!(in rt.alloc(); "{algorithm}")?.as_str(),
-        "1.2.840.10045.2.1"
-    );
-    let Some(curve) = curve else {
-        return Err(Fail::new("no curve"));
-    };
-    assert_eq!(rt;
-        format!(in rt.alloc(); "{curve}")?.as_str(),
-        "1.2.840.10045.3.1.7"
-    );
-    assert_eq!(rt; key.private_key.as_bytes(), &P256[29..]);
-    let document = key.to_secret_document(rt.alloc())?;
-    assert_eq!(rt; document.as_bytes(), P256.as_slice());
-    Ok(())
-}
-
-#[test]
-fn parameters_of_another_type(rt: HostRuntime) -> Result<(), Fail> {
-    let key = PrivateKeyInfo::<ObjectIdentifier, OctetStringRef, BitStringRef>::from_der(&P256)?;
-    assert_eq!(rt;
-        key.algorithm.parameters,
-        Some(ObjectIdentifier::new("1.2.840.10045.3.1.7")?)
-    );
-    assert_eq!(rt; key.to_der(rt.alloc())?.as_slice(), P256.as_slice());
-    Ok(())
-}
-
 // The second example of RFC 8410, section 10.3: version 2 with attributes and a public key.
-const BY_RFC: [u8; 116] = [
+pub(super) const BY_RFC: [u8; 116] = [
     0x30, 0x72, 0x02, 0x01, 0x01, 0x30, 0x05, 0x06, 0x03, 0x2b, 0x65, 0x70, 0x04, 0x22, 0x04, 0x20,
     0xd4, 0xee, 0x72, 0xdb, 0xf9, 0x13, 0x58, 0x4a, 0xd5, 0xb6, 0xd8, 0xf1, 0xf7, 0x69, 0xf8, 0xad,
     0x3a, 0xfe, 0x7c, 0x28, 0xcb, 0xf1, 0xd4, 0xfb, 0xe0, 0x97, 0xa8, 0x8f, 0x44, 0x75, 0x58, 0x42,
@@ -125,42 +56,159 @@ const BY_RFC: [u8; 116] = [
     0x70, 0x31, 0x66, 0xe1,
 ];
 
-// The attributes are no part of the value, and are not written.
+/// Each way to write the key gives the document.
+fn check_written<
+    Params: Encode,
+    Key: EncodeValue + FixedTag,
+    PubKey: BitStringLike,
+    Attrs: EncodeValue,
+>(
+    rt: &impl Abort,
+    alloc: Global,
+    key: &PrivateKeyInfo<Params, Key, PubKey, Attrs>,
+    document: &[u8],
+) -> Result<(), Fail> {
+    assert_eq!(rt; key.to_der(alloc)?.as_slice(), document);
+    assert_eq!(rt; key.to_secret_document(alloc)?.as_bytes(), document);
+    Ok(())
+}
+
+/// The owned form of the key is the same key, is read from the document, and is written as the other.
+fn check_owned(
+    rt: &impl Abort,
+    alloc: Global,
+    key: &PrivateKeyInfoRef<'_>,
+    document: &[u8],
+) -> Result<(), Fail> {
+    let owned = key.ref_to_owned(alloc)?;
+    assert!(rt; owned.owned_to_ref() == *key);
+    assert!(rt; PrivateKeyInfoOwned::from_der(alloc, document)? == owned);
+    assert!(rt; PrivateKeyInfoOwned::from_pkcs8_der(alloc, document)? == owned);
+    assert_eq!(rt; owned.version(), key.version());
+    Ok(())
+}
+
+/// The key traits of both forms go by the document that is written.
+fn check_traits(
+    rt: &impl Abort,
+    alloc: Global,
+    key: &PrivateKeyInfoRef<'_>,
+    document: &[u8],
+) -> Result<(), Fail> {
+    assert_eq!(rt; key.to_pkcs8_der(alloc)?.as_bytes(), document);
+    let owned = key.ref_to_owned(alloc)?;
+    assert_eq!(rt; owned.to_pkcs8_der(alloc)?.as_bytes(), document);
+    Ok(())
+}
+
+/// Reads the document as a key that is written so, in all its forms.
+pub(super) fn check_document<'a>(
+    rt: &impl Abort,
+    alloc: Global,
+    document: &'a [u8],
+    written: &[u8],
+) -> Result<PrivateKeyInfoRef<'a>, Fail> {
+    let key = PrivateKeyInfoRef::from_der(document)?;
+    check_written(rt, alloc, &key, written)?;
+    check_owned(rt, alloc, &key, document)?;
+    check_traits(rt, alloc, &key, written)?;
+    Ok(key)
+}
+
+// Of the second example of RFC 8410, section 10.3, all four parts are written back.
 #[test]
-fn a_key_with_attributes_and_public_key(rt: HostRuntime) -> Result<(), Fail> {
-    let key = PrivateKeyInfoRef::from_der(&BY_RFC)?;
-    assert_eq!(rt; key.version(), Version::V2);
-    let Some(public_key) = key.public_key else {
-        return Err(Fail::new("no public key"));
-    };
-    assert_eq!(rt; public_key.unused_bits(), 0);
-    assert_eq!(rt; public_key.raw_bytes(), &BY_RFC[84..]);
-    let document = key.to_secret_document(rt.alloc())?;
-    let bytes = document.as_bytes();
-    assert_eq!(rt; bytes.len(), 83);
-    assert_eq!(rt; &bytes[..2], [0x30, 0x51].as_slice());
-    assert_eq!(rt; &bytes[2..48], &BY_RFC[2..48]);
-    assert_eq!(rt; &bytes[48..], &BY_RFC[81..]);
-    let again = PrivateKeyInfoRef::from_der(bytes)?;
-    assert_eq!(rt; again, key);
-    let owned = again.ref_to_owned(rt.alloc())?;
-    assert_eq!(rt; owned.owned_to_ref(), key);
-    assert_eq!(rt; owned.to_der(rt.alloc())?.as_slice(), bytes);
+fn keys_in_all_their_forms(rt: HostRuntime) -> Result<(), Fail> {
+    let rows = [
+        (WORKED.as_slice(), 14, 34, Version::V1),
+        (ED25519.as_slice(), 14, 34, Version::V1),
+        (P256.as_slice(), 29, 109, Version::V1),
+        (BY_RFC.as_slice(), 14, 34, Version::V2),
+    ];
+    for (document, start, len, version) in rows {
+        let key = check_document(&rt, rt.alloc(), document, document)?;
+        assert_eq!(rt; key.version(), version);
+        assert!(rt; document.get(start..start + len) == Some(key.private_key.as_bytes()));
+    }
     Ok(())
 }
 
 #[test]
-fn keys_differ_in_each_part(rt: HostRuntime) -> Result<(), Fail> {
+fn parts_of_a_key(rt: HostRuntime) -> Result<(), Fail> {
     let key = PrivateKeyInfoRef::from_der(&BY_RFC)?;
+    assert_eq!(rt; key.algorithm.oid.as_bytes(), [0x2b, 0x65, 0x70].as_slice());
+    match (key.attributes, key.public_key) {
+        (Some(attributes), Some(public_key)) => {
+            assert_eq!(rt; attributes.as_bytes(), &BY_RFC[50..81]);
+            assert_eq!(rt; public_key.unused_bits(), 0);
+            assert_eq!(rt; public_key.raw_bytes(), &BY_RFC[84..]);
+        }
+        _ => return Err(Fail::new("a part is missing")),
+    }
+    Ok(())
+}
+
+// The curve of the key on P-256, as openssl names it.
+#[test]
+fn a_key_with_parameters(rt: HostRuntime) -> Result<(), Fail> {
+    let ec = ObjectIdentifier::new("1.2.840.10045.2.1")?;
+    let curve = ObjectIdentifier::new("1.2.840.10045.3.1.7")?;
+    let key = PrivateKeyInfoRef::from_der(&P256)?;
+    assert_eq!(rt; key.algorithm.oids(), Ok((ec, Some(curve))));
+    let key = PrivateKeyInfo::<
+        ObjectIdentifier,
+        OctetStringRef,
+        BitStringRef,
+        AttributesRef,
+    >::from_der(&P256)?;
+    assert_eq!(rt; key.algorithm.parameters, Some(curve));
+    check_written(&rt, rt.alloc(), &key, &P256)
+}
+
+/// Whether the key is still the same with these attributes and this public key.
+fn is_same_with(
+    key: &PrivateKeyInfoRef<'_>,
+    attributes: Option<AttributesRef<'_>>,
+    public_key: Option<BitStringRef<'_>>,
+) -> bool {
+    let changed: PrivateKeyInfoRef<'_> = PrivateKeyInfo {
+        algorithm: key.algorithm,
+        private_key: key.private_key,
+        attributes,
+        public_key,
+    };
+    changed == *key
+}
+
+#[test]
+fn keys_differ_in_attributes_and_public_key(rt: HostRuntime) -> Result<(), Fail> {
+    let key = PrivateKeyInfoRef::from_der(&BY_RFC)?;
+    let empty = Some(AttributesRef::new(&[])?);
+    assert!(rt; is_same_with(&key, key.attributes, key.public_key));
+    assert!(rt; !is_same_with(&key, None, key.public_key));
+    assert!(rt; !is_same_with(&key, empty, key.public_key));
+    assert!(rt; !is_same_with(&key, key.attributes, None));
+    Ok(())
+}
+
+#[test]
+fn keys_differ_in_algorithm_and_octets(rt: HostRuntime) -> Result<(), Fail> {
+    let key = PrivateKeyInfoRef::from_der(&WORKED)?;
     let other = PrivateKeyInfoRef::from_der(&ED25519)?;
     let curve = PrivateKeyInfoRef::from_der(&P256)?;
-    let without: PrivateKeyInfoRef = PrivateKeyInfo::new(key.algorithm, key.private_key);
-    assert!(rt; without != key);
     let of_other: PrivateKeyInfoRef = PrivateKeyInfo::new(key.algorithm, other.private_key);
-    assert!(rt; of_other != without);
-    assert_eq!(rt; of_other, other);
+    assert!(rt; of_other != key);
+    assert!(rt; of_other == other);
     let of_curve: PrivateKeyInfoRef = PrivateKeyInfo::new(curve.algorithm, key.private_key);
-    assert!(rt; of_curve != without);
+    assert!(rt; of_curve != key);
+    Ok(())
+}
+
+#[test]
+fn secret_documents_show_their_length(rt: HostRuntime) -> Result<(), Fail> {
+    let key = PrivateKeyInfoRef::from_der(&WORKED)?;
+    let document = key.to_secret_document(rt.alloc())?;
+    let text = format!(in rt.alloc(); "{document:?}")?;
+    assert_eq!(rt; text.as_str(), "SecretDocument { len: 48 }");
     Ok(())
 }
 
@@ -173,12 +221,42 @@ fn bit_strings_of_public_keys(rt: HostRuntime) -> Result<(), Fail> {
     Ok(())
 }
 
+/// A key each part of which is these octets.
+fn key_of(octets: &[u8]) -> Result<PrivateKeyInfoRef<'_>, Fail> {
+    Ok(PrivateKeyInfo {
+        algorithm: AlgorithmIdentifierRef {
+            oid: ObjectIdentifier::new("1.3.101.112")?,
+            parameters: None,
+        },
+        private_key: OctetStringRef::new(octets)?,
+        attributes: Some(AttributesRef::new(octets)?),
+        public_key: Some(BitStringRef::new(0, octets)?),
+    })
+}
+
+// A key of which each part has 65,536 bytes, which are taken whole by each call that takes memory. Each length from
+// 65,536 on takes four bytes (X.690, section 8.1.3).
+#[test]
+fn a_large_key(rt: HostRuntime) -> Result<(), Fail> {
+    let octets = vec![in rt.alloc(); 7u8; 65536]?;
+    let key = key_of(&octets)?;
+    let document = key.to_der(rt.alloc())?;
+    assert_eq!(rt; document.len(), 196639);
+    let read = check_document(&rt, rt.alloc(), &document, &document)?;
+    assert!(rt; read == key);
+    Ok(())
+}
+
 #[test]
 fn laws(_rt: HostRuntime) {
-    written_keys_are_read::<AnyRef, OctetStringRef, BitStringRef>();
-    read_keys_are_written_alike::<AnyRef, OctetStringRef, BitStringRef>();
+    written_keys_are_read::<AnyRef, OctetStringRef, BitStringRef, AttributesRef>();
+    read_keys_are_written_alike::<AnyRef, OctetStringRef, BitStringRef, AttributesRef>();
     read_keys_are_read_again();
-    equal_keys_have_equal_parts();
-    equal_keys_are_equal_in_each_part::<AnyRef, OctetStringRef, BitStringRef>();
-    shown_keys_hide_private_octets::<AnyRef, OctetStringRef, BitStringRef>();
+    same_keys_are_equal();
+    equal_keys_are_the_same();
+    equal_keys_are_equal_in_each_part::<AnyRef, OctetStringRef, BitStringRef, AttributesRef>();
+    equal_attributes_are_the_same();
+    shown_keys_hide_octets_and_attributes::<AnyRef, OctetStringRef, BitStringRef, AttributesRef>();
+    copied_keys_are_the_same::<AnyRef, OctetStringRef, BitStringRef, AttributesRef>();
+    copied_errors_are_the_same();
 }

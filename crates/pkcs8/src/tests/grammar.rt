@@ -1,6 +1,6 @@
-use super::documents::WORKED;
-use crate::{DecodePrivateKey, EncodePrivateKey, PrivateKeyInfoOwned, PrivateKeyInfoRef, Version};
-use der_small::{Decode, Encode};
+use super::documents::{WORKED, check_document};
+use crate::{PrivateKeyInfoOwned, PrivateKeyInfoRef, Version};
+use der_small::{Decode, Error};
 use std::alloc::{AllocError, Global};
 use std::test::Fail;
 
@@ -10,6 +10,11 @@ const KEY: &str =
 
 /// A field 81 with a public key of 32 octets.
 const PUBLIC_KEY: &str = "8121004d29167f3f1912a6f7adfa293a051a15c05ec67b8f17267b1c5550dce853bd0d";
+
+/// Two attributes, by hand after RFC 5958, section 2, and PKCS #9: the key usage (OID 2.5.29.15) of signatures, and the
+/// friendly name (OID 1.2.840.113549.1.9.20) "key". `openssl asn1parse` names both so.
+const TWO_ATTRIBUTES: &str =
+    "a024300b0603551d0f310403020780301506092a864886f70d01091431081e06006b00650079";
 
 /// Adds the bytes that two hexadecimal digits each stand for.
 fn push_bytes(bytes: &mut Vec<u8>, text: &str) -> Result<(), AllocError> {
@@ -42,66 +47,75 @@ fn document(alloc: Global, head: &str, fields: &[&str; 3]) -> Result<Vec<u8>, Al
     Ok(bytes)
 }
 
-// The rules are those of RFC 5958, section 2. Attributes and extensions are not written.
+// The rules are those of RFC 5958, section 2. Attributes are written as they were read, and extensions are not.
 #[test]
 fn documents_of_every_form(rt: HostRuntime) -> Result<(), Fail> {
     let rows = [
         // the plain key of each version
-        ("302e020100", ["", "", ""], Version::V1),
-        ("3051020101", ["", PUBLIC_KEY, ""], Version::V2),
+        ("302e020100", ["", "", ""], "302e020100"),
+        ("3051020101", ["", PUBLIC_KEY, ""], "3051020101"),
         // attributes, whose content is not read
-        ("3030020100", ["a000", "", ""], Version::V1),
-        ("3032020100", ["a002ffff", "", ""], Version::V1),
-        ("3053020101", ["a000", PUBLIC_KEY, ""], Version::V2),
+        ("3030020100", ["a000", "", ""], "3030020100"),
+        ("3032020100", ["a002ffff", "", ""], "3032020100"),
+        ("3053020101", ["a000", PUBLIC_KEY, ""], "3053020101"),
+        // a key usage and a friendly name, with and without a public key
+        ("3054020100", [TWO_ATTRIBUTES, "", ""], "3054020100"),
+        ("3077020101", [TWO_ATTRIBUTES, PUBLIC_KEY, ""], "3077020101"),
         // a public key without octets
-        ("3031020101", ["", "810100", ""], Version::V2),
+        ("3031020101", ["", "810100", ""], "3031020101"),
         // an extension under a second tag A0
-        ("3034020100", ["a000", "", "a0020500"], Version::V1),
-        ("3057020101", ["a000", PUBLIC_KEY, "a0020500"], Version::V2),
+        ("3034020100", ["a000", "", "a0020500"], "3030020100"),
+        ("3057020101", ["a000", PUBLIC_KEY, "a0020500"], "3053020101"),
         // a field A1 is an extension, whatever it holds
-        ("3032020100", ["", "", "a1020500"], Version::V1),
-        ("3055020101", ["", PUBLIC_KEY, "a1020500"], Version::V2),
-        // two extensions, of the first tag and of the last
+        ("3032020100", ["", "", "a1020500"], "302e020100"),
+        ("3055020101", ["", PUBLIC_KEY, "a1020500"], "3051020101"),
+        // an extension behind attributes, and two, of the first tag and of the last
+        ("3034020100", ["a000", "", "a2020500"], "3030020100"),
         (
             "303b020101",
             ["a000", "810100", "a2020500be020500"],
-            Version::V2,
+            "3033020101",
         ),
         (
             "305b020101",
             ["a000", PUBLIC_KEY, "a0020500be020500"],
-            Version::V2,
+            "3053020101",
         ),
     ];
-    let first = document(rt.alloc(), "302e020100", &[""; 3])?;
-    let second = document(rt.alloc(), "3051020101", &["", PUBLIC_KEY, ""])?;
-    for (head, fields, version) in rows {
+    for (head, fields, written) in rows {
+        let [attributes, public_key, _] = fields;
         let bytes = document(rt.alloc(), head, &fields)?;
-        let key = PrivateKeyInfoRef::from_der(&bytes)?;
-        assert_eq!(rt; key.version(), version, "{head}");
+        let written = document(rt.alloc(), written, &[attributes, public_key, ""])?;
+        let key = check_document(&rt, rt.alloc(), &bytes, &written)?;
         assert_eq!(rt; key.private_key.as_bytes().len(), 34, "{head}");
-        let written = key.to_der(rt.alloc())?;
-        match key.public_key {
-            None => assert_eq!(rt; written, first, "{head}"),
-            Some(public_key) if public_key.raw_bytes().is_empty() => {
-                assert_eq!(rt; written.len(), 51, "{head}")
-            }
-            Some(_) => assert_eq!(rt; written, second, "{head}"),
-        }
+        assert_eq!(rt; key.attributes.is_none(), attributes.is_empty(), "{head}");
+        assert_eq!(rt; key.public_key.is_none(), public_key.is_empty(), "{head}");
+        assert_eq!(rt;
+            key.version() == Version::V1,
+            public_key.is_empty(),
+            "{head}"
+        );
     }
     Ok(())
 }
 
-// Attributes are no part of the value.
+// A key with attributes is another key than the one without, also where they are empty.
 #[test]
-fn a_key_with_attributes_is_the_key(rt: HostRuntime) -> Result<(), Fail> {
+fn empty_attributes_are_attributes(rt: HostRuntime) -> Result<(), Fail> {
     let bytes = document(rt.alloc(), "3030020100", &["a000", "", ""])?;
-    let key = PrivateKeyInfoOwned::from_pkcs8_der(rt.alloc(), &bytes)?;
-    let worked = PrivateKeyInfoOwned::from_pkcs8_der(rt.alloc(), &WORKED)?;
-    assert_eq!(rt; key, worked);
-    let written = key.to_pkcs8_der(rt.alloc())?;
-    assert_eq!(rt; written.as_bytes(), WORKED.as_slice());
+    let key = check_document(&rt, rt.alloc(), &bytes, &bytes)?;
+    assert_eq!(rt; key.attributes.map(|a| a.as_bytes().is_empty()), Some(true));
+    let worked = PrivateKeyInfoRef::from_der(&WORKED)?;
+    assert!(rt; key != worked);
     Ok(())
+}
+
+/// What the borrowed form and the owned form refuse the bytes with.
+fn refusals(alloc: Global, bytes: &[u8]) -> [Option<Error>; 2] {
+    [
+        PrivateKeyInfoRef::from_der(bytes).err(),
+        PrivateKeyInfoOwned::from_der(alloc, bytes).err(),
+    ]
 }
 
 #[test]
@@ -161,19 +175,10 @@ fn near_misses(rt: HostRuntime) -> Result<(), Fail> {
             ],
         ),
     ];
-    let malformed = der_small::Error::Malformed;
+    let malformed = [Some(Error::Malformed); 2];
     for (head, fields) in rows {
         let bytes = document(rt.alloc(), head, &fields)?;
-        assert_eq!(rt;
-            PrivateKeyInfoRef::from_der(&bytes).err(),
-            Some(malformed),
-            "{head}"
-        );
-        assert_eq!(rt;
-            PrivateKeyInfoOwned::from_der(rt.alloc(), &bytes).err(),
-            Some(malformed),
-            "{head}"
-        );
+        assert_eq!(rt; refusals(rt.alloc(), &bytes), malformed, "{head}");
     }
     Ok(())
 }
@@ -181,18 +186,16 @@ fn near_misses(rt: HostRuntime) -> Result<(), Fail> {
 // A whole document before another byte, and one that ends too early.
 #[test]
 fn documents_of_another_length(rt: HostRuntime) -> Result<(), Fail> {
-    assert_eq!(rt;
-        PrivateKeyInfoRef::from_der(&WORKED[..47]).err(),
-        Some(der_small::Error::Malformed)
-    );
     let mut bytes = Vec::from_slice(rt.alloc(), &WORKED)?;
     bytes.push(0)?;
+    let trailing = Error::TrailingData {
+        decoded: 48,
+        remaining: 1,
+    };
+    assert_eq!(rt; refusals(rt.alloc(), &bytes), [Some(trailing); 2]);
     assert_eq!(rt;
-        PrivateKeyInfoRef::from_der(&bytes).err(),
-        Some(der_small::Error::TrailingData {
-            decoded: 48,
-            remaining: 1
-        })
+        refusals(rt.alloc(), &WORKED[..47]),
+        [Some(Error::Malformed); 2]
     );
     Ok(())
 }

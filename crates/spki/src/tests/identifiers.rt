@@ -28,63 +28,75 @@ fn parameters_of_identifiers(rt: HostRuntime) -> Result<(), Fail> {
     let curve = ObjectIdentifier::new("1.2.840.10045.3.1.7")?;
     let ed25519 = ObjectIdentifier::new("1.3.101.112")?;
     let id = AlgorithmIdentifierRef::from_der(&P256)?;
-    assert_eq!(rt; id.oids()?, (ec, Some(curve)));
-    assert_eq!(rt; id.parameters_oid()?, curve);
-    assert_eq!(rt; id.assert_algorithm_oid(ec)?, ec);
-    assert_eq!(rt; id.assert_parameters_oid(curve)?, curve);
-    assert_eq!(rt; id.assert_oids(ec, curve), Ok(()));
-    assert_eq!(rt;
-        id.assert_oids(ed25519, ed25519),
-        Err(Error::OidUnknown { oid: ec })
-    );
-    assert_eq!(rt;
-        id.assert_oids(ec, ed25519),
-        Err(Error::OidUnknown { oid: curve })
-    );
-    let known = AlgorithmIdentifierWithOid::from_der(&P256)?;
-    assert_eq!(rt; known.parameters, Some(curve));
-    assert_eq!(rt; known.to_der(rt.alloc())?.as_slice(), P256.as_slice());
+    assert_eq!(rt; id.oids(), Ok((ec, Some(curve))));
+    assert_eq!(rt; id.parameters_oid(), Ok(curve));
+    let unknown = Err(Error::OidUnknown { oid: ec });
+    assert_eq!(rt; id.assert_algorithm_oid(ec), Ok(ec));
+    assert_eq!(rt; id.assert_algorithm_oid(curve), unknown);
+    let unknown = Err(Error::OidUnknown { oid: curve });
+    assert_eq!(rt; id.assert_parameters_oid(curve), Ok(curve));
+    assert_eq!(rt; id.assert_parameters_oid(ec), unknown);
+    let rows = [
+        (ec, curve, Ok(())),
+        (ed25519, ed25519, Err(Error::OidUnknown { oid: ec })),
+        (ec, ed25519, Err(Error::OidUnknown { oid: curve })),
+    ];
+    for (algorithm, parameters, wanted) in rows {
+        assert_eq!(rt; id.assert_oids(algorithm, parameters), wanted);
+    }
+    Ok(())
+}
 
+#[test]
+fn absent_and_null_parameters(rt: HostRuntime) -> Result<(), Fail> {
+    let ed25519 = ObjectIdentifier::new("1.3.101.112")?;
     let none = AlgorithmIdentifierRef::from_der(&ED25519)?;
-    assert_eq!(rt; none.oids()?, (ed25519, None));
-    assert_eq!(rt;
-        none.parameters_any(),
-        Err(Error::AlgorithmParametersMissing)
-    );
-    assert_eq!(rt;
-        none.parameters_oid(),
-        Err(Error::AlgorithmParametersMissing)
-    );
-
+    let missing = Error::AlgorithmParametersMissing;
+    assert_eq!(rt; none.oids(), Ok((ed25519, None)));
+    assert_eq!(rt; none.parameters_any(), Err(missing));
+    assert_eq!(rt; none.parameters_oid(), Err(missing));
     let null = AlgorithmIdentifierRef::from_der(&WITH_NULL)?;
-    let (Some(expected), Some(actual)) = (Tag::new(Tag::OID), Tag::new(Tag::NULL)) else {
-        return Err(Fail::new("no tags"));
+    let unexpected = der_small::Error::TagUnexpected {
+        expected: Tag::from_valid(Tag::OID),
+        actual: Tag::from_valid(Tag::NULL),
     };
-    let unexpected = der_small::Error::TagUnexpected { expected, actual };
-    assert_eq!(rt; null.oids()?, (ed25519, None));
-    assert!(rt; null.parameters_any()?.is_null());
+    assert_eq!(rt; null.oids(), Ok((ed25519, None)));
+    assert_eq!(rt; null.parameters_any().map(|p| p.is_null()), Ok(true));
     assert_eq!(rt; null.parameters_oid(), Err(Error::Asn1(unexpected)));
     assert!(rt; null != none);
     Ok(())
 }
 
 #[test]
-fn forms_and_orders_of_identifiers(rt: HostRuntime) -> Result<(), Fail> {
+fn parameters_of_another_type(rt: HostRuntime) -> Result<(), Fail> {
+    let curve = ObjectIdentifier::new("1.2.840.10045.3.1.7")?;
+    let known = AlgorithmIdentifierWithOid::from_der(&P256)?;
+    assert_eq!(rt; known.parameters, Some(curve));
+    assert_eq!(rt; known.to_der(rt.alloc())?.as_slice(), P256.as_slice());
+    Ok(())
+}
+
+#[test]
+fn forms_of_identifiers(rt: HostRuntime) -> Result<(), Fail> {
     let id = AlgorithmIdentifierRef::from_der(&P256)?;
     let owned = id.ref_to_owned(rt.alloc())?;
-    assert_eq!(rt;
-        owned,
-        AlgorithmIdentifierOwned::from_der(rt.alloc(), &P256)?
-    );
+    let read = AlgorithmIdentifierOwned::from_der(rt.alloc(), &P256)?;
+    assert!(rt; read == owned);
     assert_eq!(rt; owned.owned_to_ref(), id);
     assert_eq!(rt; owned.as_algo_ref(), id.as_algo_ref());
     assert_eq!(rt; owned.to_der(rt.alloc())?.as_slice(), P256.as_slice());
-    // An absent parameter stands before a present one, and a shorter content before a longer one.
+    Ok(())
+}
+
+// An absent parameter stands before a present one, and a shorter content before a longer one.
+#[test]
+fn orders_of_identifiers(rt: HostRuntime) -> Result<(), Fail> {
+    let id = AlgorithmIdentifierRef::from_der(&P256)?;
     let none = AlgorithmIdentifierRef::from_der(&ED25519)?;
     let null = AlgorithmIdentifierRef::from_der(&WITH_NULL)?;
-    assert_eq!(rt; none.value_cmp(&null)?, Ordering::Less);
-    assert_eq!(rt; null.der_cmp(&null)?, Ordering::Equal);
-    assert_eq!(rt; id.value_cmp(&none)?, Ordering::Greater);
+    assert_eq!(rt; none.value_cmp(&null), Ok(Ordering::Less));
+    assert_eq!(rt; null.der_cmp(&null), Ok(Ordering::Equal));
+    assert_eq!(rt; id.value_cmp(&none), Ok(Ordering::Greater));
     assert_eq!(rt; id.cmp(&none), Ordering::Less);
     Ok(())
 }
@@ -112,7 +124,7 @@ ghost use Rattle.der_core.specs.Oid.{IsOidContent};
 ghost use Rattle.der_core.specs.ObjectIdentifier.{oid_content};
 
 /// The identifier of a content that is known to be one.
-fn known(content: &[u8]) -> ObjectIdentifier
+pub(super) fn known(content: &[u8]) -> ObjectIdentifier
     requires { IsOidContent content.now }
     ensures { oid_content result ≡ content.now }
 {

@@ -1,7 +1,7 @@
 use Rattle.std.proofs.Common.{◌≡◌, ◌≤◌, ◌∙◌, arith}
 use Rattle.der_core.specs.Der.{IsValue}
+use Rattle.der_core.specs.SequenceLaws.{unless}
 use Rattle.pkcs8.proofs.Fields.{first_field, with_field, no_field, shorter}
-use Rattle.pkcs8.proofs.Keys.{unless}
 use Rattle.pkcs8.proofs.extensions.after_extension.Goals as goal
 
 pub returns-in_default-clause-none : goal.returns-in_default-clause-none

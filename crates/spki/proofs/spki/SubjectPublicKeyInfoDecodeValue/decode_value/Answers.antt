@@ -1,5 +1,6 @@
 use Rattle.std.proofs.Common.{rules}
-use Rattle.spki.proofs.Fields.{no_algorithm, no_key, more_than_key, unfinished}
+use Rattle.der_core.specs.SequenceLaws.{unless}
+use Rattle.spki.proofs.Fields.{no_algorithm, no_key, more_than_key}
 use Rattle.spki.proofs.spki.SubjectPublicKeyInfoDecodeValue.decode_value.Goals as goal
 
 pub returns-in_default-clause-none : goal.returns-in_default-clause-none
@@ -12,4 +13,4 @@ returns-in_default-decode-clause-none g c = λ v content.
 
 pub returns-then-not-is_finished-clause-none : goal.returns-then-not-is_finished-clause-none
 returns-then-not-is_finished-clause-none g c = λ v content.
-    more_than_key g.Params.Decode.Reads g.Key.Decode.Reads _ _ _ _ _ (g.met.Key.Decode c.lifetimes (search rules)).one_value c.in-Ok.ensures.value c.in-Ok-decode.ensures.value (unfinished _ c.is_finished.ensures c.if-not-is_finished.true) v (rw (c.new-at.ensures, c.rest.ensures) content)
+    more_than_key g.Params.Decode.Reads g.Key.Decode.Reads _ _ _ _ _ (g.met.Key.Decode c.lifetimes (search rules)).one_value c.in-Ok.ensures.value c.in-Ok-decode.ensures.value (unless _ c.is_finished.ensures c.if-not-is_finished.true) v (rw (c.new-at.ensures, c.rest.ensures) content)
