@@ -1,0 +1,14 @@
+pub mod Ends
+pub mod PlacesLaws
+pub mod Results
+pub mod EntryLaws
+pub mod BundleLaws
+pub mod TextLaws
+pub mod Inverses
+pub mod NamesFit
+pub mod VerdictLaws
+pub mod RuleLaws
+pub mod ReadingLaws
+pub mod AssemblyLaws
+pub mod JudgeLaws
+pub mod Seen

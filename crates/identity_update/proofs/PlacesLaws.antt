@@ -1,0 +1,200 @@
+-- Where the parts of an entry stand in its encoding.
+use Rattle.std.proofs.Common.{◌≡◌, ℕ, ◌+◌, ◌<◌, ◌≤◌, ◌^◌, List, [], ◌∷◌, ◌++◌, length, Option, Some, None, IfSome, option_map, refl, sym, ap, subst, ◌∙◌, append_assoc, append-nil, length-append, arith}
+use Rattle.der_core.specs.Any.{PlainAny, der_of}
+use Rattle.der_core.specs.Der.{encode}
+use Rattle.spiffe_id.specs.SpiffeId.{id_text}
+use Rattle.spki.specs.Algorithm.{optional_bytes}
+use Rattle.spki.specs.PlainAlgorithm.{algorithm_der}
+use Rattle.spki.specs.PlainPublicKey.{public_key_der}
+use Rattle.pkcs8.specs.PlainPrivateKey.{plain_texts, private_key_der}
+use Rattle.pkcs8.specs.PrivateKey.{attributes_tag, fields_written}
+use Rattle.pkcs8.specs.Version.{version_byte, version_of}
+use Rattle.spiffe_id.specs.SpiffeId.{Id}
+use Rattle.der_small.specs.Bits.{PlainBits}
+use Rattle.spki.specs.PlainAlgorithm.{PlainAlgorithm}
+use Rattle.spki.specs.PlainPublicKey.{PlainPublicKey}
+use Rattle.pkcs8.specs.PlainPrivateKey.{PlainPrivateKey}
+use Rattle.std.specs.Prelude.{is_some, if◌then◌else◌, Bool, true, false}
+use Rattle.std.proofs.Common.{map}
+use Rattle.std.proofs.lemmas.List.{map-append}
+use Rattle.identity_update.specs.Kept.{AreKept, IsKept, kept_algorithm, kept_bits, kept_entry}
+use Rattle.identity_update.specs.declared.kept.KeptEntry.{KeptEntry}
+use Rattle.identity_update.specs.Parts.{Entry}
+use Rattle.identity_update.specs.Place.{FoundAt, part}
+use Rattle.update_document.specs.Spelling as spelling
+use Rattle.identity_update.specs.Canonical.{canonical_entry}
+use Rattle.identity_update.specs.Lawful.{HasOneKey}
+use Rattle.identity_update.specs.Places.{BeginsAt, Ends, StandsAt, attributes_field, behind_attributes, behind_octets, held_field}
+use Rattle.identity_update.specs.declared.place.Place.{Place}
+use Rattle.identity_update.proofs.Ends.{ends_self, ends_cons, ends_value, ends_first, ends_second, found_at}
+
+abbrev pub entry_content : Entry → List ℕ
+entry_content e = spelling.entry_content (canonical_entry e)
+
+abbrev pub entry_der : Entry → List ℕ
+entry_der e = spelling.entry_der (canonical_entry e)
+
+ends_same : (a b whole : List ℕ) → a ≡ b → Ends a whole → Ends b whole
+ends_same a b whole e x = subst (λ (t : List ℕ). Ends t whole) e x
+
+abbrev pub bits_field : Entry → List ℕ
+bits_field e = encode 3 (e.public_key.key.unused_bits ∷ e.public_key.key.octets)
+
+-- what ends the public key ends the entry
+in_entry : (tail : List ℕ) (e : Entry) → Ends tail (private_key_der e.private_key ++ public_key_der e.public_key) → Ends tail (entry_der e)
+in_entry tail e x = ends_value 48 tail (entry_content e) (ends_second (encode 12 (id_text e.id)) tail (private_key_der e.private_key ++ public_key_der e.public_key) x)
+
+in_public : (tail : List ℕ) (e : Entry) → Ends tail (algorithm_der e.public_key.algorithm ++ bits_field e) → Ends tail (entry_der e)
+in_public tail e x =
+    in_entry tail e (ends_second (private_key_der e.private_key) tail (public_key_der e.public_key) (ends_value 48 tail (algorithm_der e.public_key.algorithm ++ bits_field e) x))
+
+pub bits_end : (e : Entry) → Ends (e.public_key.key.octets ++ []) (entry_der e)
+bits_end e =
+    let octets : List ℕ = e.public_key.key.octets in
+    let content : List ℕ = e.public_key.key.unused_bits ∷ octets in
+    let field = ends_value 3 octets content (ends_cons e.public_key.key.unused_bits octets) in
+    ends_same octets (octets ++ []) (entry_der e) (sym (append-nil octets)) (in_public octets e (ends_second (algorithm_der e.public_key.algorithm) octets (bits_field e) field))
+
+pub field_end : (e : Entry) → Ends (bits_field e) (entry_der e)
+field_end e = in_public (bits_field e) e (ends_second (algorithm_der e.public_key.algorithm) (bits_field e) (bits_field e) (ends_self (bits_field e)))
+
+algorithm_end : (oid : List ℕ) (parameters : Option PlainAny) (p : PlainAny) → parameters ≡ Some p → Ends p.content (encode 48 (encode 6 oid ++ optional_bytes der_of parameters))
+algorithm_end oid parameters p e =
+    rw e (ends_value 48 p.content (encode 6 oid ++ der_of p) (ends_second (encode 6 oid) p.content (der_of p) (ends_value p.tag p.content p.content (ends_self p.content))))
+
+pub parameters_end : (e : Entry) (p : PlainAny) → e.public_key.algorithm.parameters ≡ Some p → Ends (p.content ++ bits_field e) (entry_der e)
+parameters_end e p is =
+    in_public (p.content ++ bits_field e) e (ends_first p.content (algorithm_der e.public_key.algorithm) (bits_field e) (algorithm_end e.public_key.algorithm.oid e.public_key.algorithm.parameters p is))
+
+-- what ends the private key stands before the public one
+in_private : (tail : List ℕ) (e : Entry) → Ends tail (fields_written plain_texts e.private_key) → Ends (tail ++ public_key_der e.public_key) (entry_der e)
+in_private tail e x =
+    in_entry (tail ++ public_key_der e.public_key) e (ends_first tail (private_key_der e.private_key) (public_key_der e.public_key) (ends_value 48 tail (fields_written plain_texts e.private_key) x))
+
+abbrev before_attributes : Entry → List ℕ
+before_attributes e = encode 2 (version_byte (version_of e.private_key.public_key) ∷ []) ++ algorithm_der e.private_key.algorithm ++ encode 4 e.private_key.private_key
+
+pub octets_end : (e : Entry) → Ends (e.private_key.private_key ++ behind_octets e) (entry_der e)
+octets_end e =
+    let octets : List ℕ = e.private_key.private_key in
+    let front : List ℕ = encode 2 (version_byte (version_of e.private_key.public_key) ∷ []) ++ algorithm_der e.private_key.algorithm in
+    let attributes : List ℕ = attributes_field e.private_key.attributes in
+    let held : List ℕ = held_field e.private_key.public_key in
+    let public : List ℕ = public_key_der e.public_key in
+    let first = ends_second front octets (encode 4 octets) (ends_value 4 octets octets (ends_self octets)) in
+    let content = ends_first octets (front ++ encode 4 octets) (attributes ++ held) first in
+    ends_same ((octets ++ (attributes ++ held)) ++ public) (octets ++ (attributes ++ (held ++ public))) (entry_der e)
+    (append_assoc octets (attributes ++ held) public ∙ ap (λ (x : List ℕ). octets ++ x) (append_assoc attributes held public)) (in_private (octets ++ (attributes ++ held)) e content)
+
+field_of : (attributes : Option (List ℕ)) (content : List ℕ) → attributes ≡ Some content → Ends content (attributes_field attributes)
+field_of attributes content is = rw is (ends_value attributes_tag content content (ends_self content))
+
+pub attributes_end : (e : Entry) (content : List ℕ) → e.private_key.attributes ≡ Some content → Ends (content ++ behind_attributes e) (entry_der e)
+attributes_end e content is =
+    let held : List ℕ = held_field e.private_key.public_key in
+    let public : List ℕ = public_key_der e.public_key in
+    let attributes : List ℕ = attributes_field e.private_key.attributes in
+    let field = ends_first content attributes held (field_of e.private_key.attributes content is) in
+    let three = ends_second (before_attributes e) (content ++ held) (attributes ++ held) field in
+    ends_same ((content ++ held) ++ public) (content ++ (held ++ public)) (entry_der e) (append_assoc content held public) (in_private (content ++ held) e three)
+
+ends_suffix : (a b whole : List ℕ) → Ends (a ++ b) whole → Ends b whole
+ends_suffix a b whole x = record { front = x.front ++ a; is = x.is ∙ sym (append_assoc x.front a b) }
+
+pub behind_octets_end : (e : Entry) → Ends (behind_octets e) (entry_der e)
+behind_octets_end e = ends_suffix e.private_key.private_key (behind_octets e) (entry_der e) (octets_end e)
+
+pub behind_attributes_end : (e : Entry) → Ends (behind_attributes e) (entry_der e)
+behind_attributes_end e = ends_suffix (attributes_field e.private_key.attributes) (behind_attributes e) (entry_der e) (behind_octets_end e)
+
+-- a part that stands before the last `back` bytes of the entry
+pub found_in : (document bytes middle back : List ℕ) (end : ℕ) (p : Place) → StandsAt document bytes end → Ends (middle ++ back) bytes → p.end + length back ≡ end → p.start + length middle ≡ p.end → FoundAt document p middle
+found_in document bytes middle back end p s e after before = found_at document s.pre bytes s.post middle back end p s.is s.at e after before
+
+pub room : (document bytes middle back : List ℕ) (end : ℕ) → StandsAt document bytes end → Ends (middle ++ back) bytes → length back + length middle ≤ end
+room document bytes middle back end s e =
+    let whole : length bytes ≡ length e.front + (length middle + length back) =
+    ap length e.is ∙ length-append e.front (middle ++ back) ∙ ap (λ (n : ℕ). length e.front + n) (length-append middle back) in
+    let at = s.at in
+    omega arith
+
+pub tail_fits : (document bytes tail : List ℕ) (end : ℕ) → StandsAt document bytes end → Ends tail bytes → length document < 2 ^ 32 → length tail < 2 ^ 32
+tail_fits document bytes tail end s e small =
+    let whole : length bytes ≡ length e.front + length tail = ap length e.is ∙ length-append e.front tail in
+    let all : length document ≡ length s.pre + (length bytes + length s.post) =
+    ap length s.is ∙ length-append s.pre (bytes ++ s.post) ∙ ap (λ (n : ℕ). length s.pre + n) (length-append bytes s.post) in
+    omega arith
+
+pub public_end : (e : Entry) → Ends (public_key_der e.public_key) (entry_der e)
+public_end e = in_entry (public_key_der e.public_key) e (ends_second (private_key_der e.private_key) (public_key_der e.public_key) (public_key_der e.public_key) (ends_self (public_key_der e.public_key)))
+
+pub behind_fits : (document : List ℕ) (e : Entry) (end : ℕ) → StandsAt document (entry_der e) end → length document < 2 ^ 32 → length (attributes_field e.private_key.attributes) + (length (held_field e.private_key.public_key) + length (public_key_der e.public_key)) < 2 ^ 32
+behind_fits document e end s small =
+    let fits = tail_fits document (entry_der e) (behind_octets e) end s (behind_octets_end e) small in
+    let sum = length-append (attributes_field e.private_key.attributes) (behind_attributes e) in
+    let both = length-append (held_field e.private_key.public_key) (public_key_der e.public_key) in
+    omega arith
+
+held_key : (h : Bool) (o : Option PlainBits) (key : PlainBits) → h ≡ is_some o → IfSome o (λ k. k ≡ key) → (if h then Some key else None) ≡ o
+held_key true None key e s = cc
+held_key true (Some k) key e s = let some : PlainBits → Option PlainBits = λ x. Some x in ap some (sym s)
+held_key false None key e s = refl
+held_key false (Some k) key e s = cc
+
+-- what is kept is the entry
+pub kept_same : (document : List ℕ) (k : KeptEntry) (e : Entry) → k.id ≡ e.id → kept_algorithm document k ≡ e.public_key.algorithm → part document k.octets ≡ e.private_key.private_key → option_map (part document) k.attributes ≡ e.private_key.attributes → kept_bits document k ≡ e.public_key.key → k.holds_public_key ≡ is_some e.private_key.public_key → HasOneKey e → kept_entry document k ≡ e
+kept_same document k e id algorithm octets attributes bits holds one =
+    let with_id : Id → Entry = λ x. record { id = x; private_key = (kept_entry document k).private_key; public_key = (kept_entry document k).public_key } in
+    let with_private : PlainPrivateKey → Entry = λ x. record { id = e.id; private_key = x; public_key = (kept_entry document k).public_key } in
+    let with_public : PlainPublicKey → Entry = λ x. record { id = e.id; private_key = e.private_key; public_key = x } in
+    let private_algorithm : PlainAlgorithm → PlainPrivateKey = λ x. record { algorithm = x; private_key = part document k.octets; attributes = option_map (part document) k.attributes; public_key = (kept_entry document k).private_key.public_key } in
+    let private_octets : List ℕ → PlainPrivateKey = λ x. record { algorithm = e.private_key.algorithm; private_key = x; attributes = option_map (part document) k.attributes; public_key = (kept_entry document k).private_key.public_key } in
+    let private_attributes : Option (List ℕ) → PlainPrivateKey = λ x. record { algorithm = e.private_key.algorithm; private_key = e.private_key.private_key; attributes = x; public_key = (kept_entry document k).private_key.public_key } in
+    let private_held : Option PlainBits → PlainPrivateKey = λ x. record { algorithm = e.private_key.algorithm; private_key = e.private_key.private_key; attributes = e.private_key.attributes; public_key = x } in
+    let public_algorithm : PlainAlgorithm → PlainPublicKey = λ x. record { algorithm = x; key = kept_bits document k } in
+    let public_bits : PlainBits → PlainPublicKey = λ x. record { algorithm = e.public_key.algorithm; key = x } in
+    let held : (if k.holds_public_key then Some (kept_bits document k) else None) ≡ e.private_key.public_key = held_key k.holds_public_key e.private_key.public_key (kept_bits document k) holds (rw bits one.held) in
+    ap with_id id
+    ∙ ap with_private (ap private_algorithm (algorithm ∙ sym one.algorithm) ∙ ap private_octets octets ∙ ap private_attributes attributes ∙ ap private_held held)
+    ∙ ap with_public (ap public_algorithm algorithm ∙ ap public_bits bits)
+
+pub some_map : {X Y : Type 0} (f : X → Y) (o : Option X) → is_some o ≡ is_some (option_map f o)
+some_map f None = refl
+some_map f (Some x) = refl
+
+pub record AfterFirst (document bytes more : List ℕ) (start : ℕ) : Type 0 where
+  pub stands : StandsAt document bytes (start + length bytes)
+  pub begins : BeginsAt document more (start + length bytes)
+  pub within : start + length bytes ≤ length document
+
+-- the first of several encodings, and where the others begin
+pub after_first : (document bytes more : List ℕ) (start : ℕ) → BeginsAt document (bytes ++ more) start → AfterFirst document bytes more start
+after_first document bytes more start b =
+    let inner : document ≡ b.pre ++ (bytes ++ (more ++ b.post)) = b.is ∙ ap (λ (x : List ℕ). b.pre ++ x) (append_assoc bytes more b.post) in
+    let at = b.at in
+    let front : length (b.pre ++ bytes) ≡ length b.pre + length bytes = length-append b.pre bytes in
+    let outer : document ≡ (b.pre ++ bytes) ++ (more ++ b.post) = inner ∙ sym (append_assoc b.pre bytes (more ++ b.post)) in
+    let all : length document ≡ length (b.pre ++ bytes) + length (more ++ b.post) = ap length outer ∙ length-append (b.pre ++ bytes) (more ++ b.post) in
+    record {
+      stands = record { pre = b.pre; post = more ++ b.post; is = inner; at = omega arith };
+      begins = record { pre = b.pre ++ bytes; post = b.post; is = outer; at = omega arith };
+      within = omega arith;
+    }
+
+-- one more is kept
+pub value_more : {A B C : Type 0} (f : A → C) (g : B → C) (old new : List A) (left rest : List B) (a : A) (b : B) (all : List C) → map f old ++ map g left ≡ all → left ≡ b ∷ rest → new ≡ old ++ a ∷ [] → f a ≡ g b → map f new ++ map g rest ≡ all
+value_more {C = C} f g old new left rest a b all so steps pushed same =
+    ap (λ x. map f x ++ map g rest) pushed
+    ∙ ap (λ x. x ++ map g rest) (map-append f old (a ∷ []))
+    ∙ append_assoc (map f old) (f a ∷ []) (map g rest)
+    ∙ ap (λ y. map f old ++ (y ∷ map g rest)) same
+    ∙ ap (λ x. map f old ++ map g x) (sym steps)
+    ∙ so
+
+-- the public key of an entry that stands in a document is not too long
+pub public_key_fits : (document : List ℕ) (e : Entry) (end : ℕ) → StandsAt document (entry_der e) end → length document < 2 ^ 32 → length (public_key_der e.public_key) < 2 ^ 32
+public_key_fits document e end stands small = tail_fits document (entry_der e) (public_key_der e.public_key) end stands (public_end e) small
+
+pub kept_more : (document : List ℕ) (ks : List KeptEntry) (k : KeptEntry) → AreKept document ks → IsKept document k → AreKept document (ks ++ k ∷ [])
+kept_more document [] k are one = (one, tt)
+kept_more document (x ∷ ks) k are one = (are.0, kept_more document ks k are.1 one)

@@ -1,0 +1,26 @@
+-- What holds of every lawful update.
+use Rattle.std.specs.Prelude.{◌≡◌, ℕ, List, [], ◌∷◌, true, Option, Some, None, IsOk, IfSome}
+use Rattle.std.specs.List.{AllByRecursion}
+use Rattle.spiffe_core.specs.KeySet.{key_set_of}
+use Rattle.update_document.specs.Document.{IsReasonText}
+use Rattle.identity_update.specs.Parts.{Entry, UpdateParts}
+use Rattle.identity_update.specs.Verdict.{has_bundle}
+
+-- an entry and no reason, or a reason and no entry
+abbrev pub HasOnePurpose : List Entry → Option (List ℕ) → Type 0
+HasOnePurpose [] None = ⊥
+HasOnePurpose [] (Some reason) = Unit {0}
+HasOnePurpose (e ∷ es) None = Unit {0}
+HasOnePurpose (e ∷ es) (Some reason) = ⊥
+
+-- the two keys have one algorithm, and a public key in the private one is the public one
+pub record HasOneKey (e : Entry) : Type 0 where
+  pub algorithm : e.private_key.algorithm ≡ e.public_key.algorithm
+  pub held : IfSome e.private_key.public_key (λ key. key ≡ e.public_key.key)
+
+pub record IsLawful (u : UpdateParts) : Type 0 where
+  pub purpose : HasOnePurpose u.entries u.reason
+  pub reason : IfSome u.reason IsReasonText
+  pub keys : AllByRecursion HasOneKey u.entries
+  pub key_sets : AllByRecursion (λ b. IsOk (key_set_of b.jwks)) u.bundles
+  pub members : AllByRecursion (λ e. has_bundle e.id.trust_domain u.bundles ≡ true) u.entries

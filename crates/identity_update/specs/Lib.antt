@@ -1,0 +1,15 @@
+-- What the contracts of this crate cite.
+pub mod Parts
+pub mod Canonical
+pub mod SameUpdate
+pub mod Verdict
+pub mod BundleMap
+pub mod Lawful
+pub mod UpdateError
+pub mod Reading
+pub mod Place
+pub mod Bundle
+pub mod Kept
+pub mod Checked
+pub mod Places
+pub mod Assembled

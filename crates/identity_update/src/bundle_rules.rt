@@ -1,0 +1,115 @@
+//! The rules of bundles.
+ghost use Rattle.std.specs.Prelude.{◌≡◌, ◌⊎◌, ◌++◌, ◌∷◌, [], ℕ, List, Ok, map, IfOk, IfErr, OnOk};
+ghost use Rattle.spiffe_core.specs.JwtBundleSet.{with_bundle};
+ghost use Rattle.spiffe_core.specs.KeySet.{key_set_of};
+ghost use Rattle.spiffe_id.specs.TrustDomain.{trust_domain_of};
+ghost use Rattle.update_document.specs.Refs.{written_bundle};
+ghost use Rattle.identity_update.specs.Bundle.{plain_bundle};
+ghost use Rattle.identity_update.specs.BundleMap.{bundle_map, keys_of_bundle};
+ghost use Rattle.identity_update.specs.Verdict.{IsRefusal, bundle_check, bundles_check, map_refusal};
+ghost use Rattle.identity_update.specs.declared.error.UpdateError.TheVariants.{Authorities, Domain};
+
+use crate::bundle::BundleParts;
+use crate::error::UpdateError;
+use spiffe_core::{JwtBundle, JwtBundleError, JwtBundleSet};
+use spiffe_id::{SpiffeIdError, TrustDomain};
+use std::alloc::Global;
+use update_document::BundleRef;
+
+/// The bundles as they are listed, and the set of them.
+#[derive(Drop)]
+pub(crate) struct CheckedBundles {
+    pub(crate) parts: Vec<BundleParts>,
+    pub(crate) set: JwtBundleSet,
+}
+
+fn domain(alloc: Global, number: usize, text: &str) -> Result<TrustDomain, UpdateError>
+    ensures ok { IfOk result (λ d. map_refusal (Domain number) (trust_domain_of text.now) ≡ Ok d) }
+    ensures err { IfErr result (IsRefusal (map_refusal (Domain number) (trust_domain_of text.now))) }
+{
+    match TrustDomain::new(alloc, text) {
+        Ok(domain) => Ok(domain),
+        Err(SpiffeIdError::OutOfMemory) => Err(UpdateError::OutOfMemory),
+        Err(cause) => Err(UpdateError::Domain {
+            bundle: number,
+            cause,
+        }),
+    }
+}
+
+fn copy_of(alloc: Global, domain: &TrustDomain) -> Result<TrustDomain, UpdateError>
+    ensures ok { IfOk result (λ d. d ≡ domain.now) }
+    ensures err { IfErr result (λ e. e ≡ UpdateError.OutOfMemory) }
+{
+    match domain.try_clone(alloc) {
+        Ok(copy) => Ok(copy),
+        Err(_) => Err(UpdateError::OutOfMemory),
+    }
+}
+
+fn key_set(
+    alloc: Global,
+    number: usize,
+    domain: TrustDomain,
+    jwks: &[u8],
+) -> Result<JwtBundle, UpdateError>
+    ensures domain { IfOk result (λ b. b.trust_domain ≡ domain) }
+    ensures ok { IfOk result (λ b. map_refusal (Authorities number) (key_set_of jwks.now) ≡ Ok b.authorities) }
+    ensures keys { IfOk result (λ b. key_set_of jwks.now ≡ Ok b.authorities) }
+    ensures err { IfErr result (IsRefusal (map_refusal (Authorities number) (key_set_of jwks.now))) }
+{
+    match JwtBundle::from_jwt_authorities(alloc, domain, jwks) {
+        Ok(bundle) => Ok(bundle),
+        Err(JwtBundleError::OutOfMemory) => Err(UpdateError::OutOfMemory),
+        Err(cause) => Err(UpdateError::Authorities {
+            bundle: number,
+            cause,
+        }),
+    }
+}
+
+/// A bundle as it is listed, and as it is read.
+fn check_bundle(
+    alloc: Global,
+    number: usize,
+    bundle: &BundleRef<'_>,
+) -> Result<(BundleParts, JwtBundle), UpdateError>
+    ensures ok { IfOk result (λ both. bundle_check number (written_bundle bundle.now) ≡ Ok (plain_bundle both.0)) }
+    ensures keys { IfOk result (λ both. both.1 ≡ keys_of_bundle (plain_bundle both.0)) }
+    ensures err { IfErr result (IsRefusal (bundle_check number (written_bundle bundle.now))) }
+{
+    let trust_domain = domain(alloc, number, bundle.text.as_str())?;
+    let copy = copy_of(alloc, &trust_domain)?;
+    let read = key_set(alloc, number, copy, bundle.jwks.as_bytes())?;
+    let jwks = Vec::from_slice(alloc, bundle.jwks.as_bytes())?;
+    Ok((BundleParts { trust_domain, jwks }, read))
+}
+
+fn add(set: &mut JwtBundleSet, bundle: JwtBundle) -> Result<(), UpdateError>
+    ensures ok { OnOk result (set.new ≡ with_bundle set.old bundle) }
+    ensures err { IfErr result (λ e. e ≡ UpdateError.OutOfMemory) }
+{
+    match set.add_bundle(bundle) {
+        Ok(()) => Ok(()),
+        Err(_) => Err(UpdateError::OutOfMemory),
+    }
+}
+
+/// Tries the rules of each bundle in turn. Each key set is read once.
+pub(crate) fn check_bundles(
+    alloc: Global,
+    bundles: &[BundleRef<'_>],
+) -> Result<CheckedBundles, UpdateError>
+    ensures ok { IfOk result (λ checked. bundles_check 0 (map written_bundle bundles.now) ≡ Ok (map plain_bundle checked.parts.items)) }
+    ensures set { IfOk result (λ checked. checked.set ≡ bundle_map (map plain_bundle checked.parts.items)) }
+    ensures err { IfErr result (IsRefusal (bundles_check 0 (map written_bundle bundles.now))) }
+{
+    let mut parts = Vec::with_capacity(alloc, bundles.len())?;
+    let mut set = JwtBundleSet::new(alloc);
+    for (number, bundle) in bundles.iter().enumerate() {
+        let (listed, read) = check_bundle(alloc, number, bundle)?;
+        add(&mut set, read)?;
+        parts.push(listed)?;
+    }
+    Ok(CheckedBundles { parts, set })
+}

@@ -1,0 +1,30 @@
+//! Updates: SPIFFE identities with their key pairs and trust bundles with their key sets, or the reason for which identities are withdrawn. An update is read from the Base64 of its document, or the answer names the first rule that the text breaks.
+#![tactic(auto)]
+
+mod assembly;
+mod bundle;
+mod bundle_rules;
+mod entries;
+mod entry;
+mod entry_rules;
+mod equality;
+mod error;
+mod identity;
+mod kept;
+pub mod laws;
+mod members;
+mod place;
+mod places;
+mod text;
+mod threads;
+mod update;
+mod verdict;
+
+pub use bundle::BundleParts;
+pub use entries::Entries;
+pub use error::UpdateError;
+pub use identity::Identity;
+pub use update::Update;
+
+#[cfg(test)]
+mod tests;

@@ -1,0 +1,3 @@
+mod lending;
+mod reading;
+mod refusals;

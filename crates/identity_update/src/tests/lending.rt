@@ -1,0 +1,105 @@
+//! What updates lend, and when they are equal. The documents are put together from the grammar by a few lines of Python, and written by its `base64`; keys are RFC 8410's, made by OpenSSL.
+use crate::{Entries, Update};
+use der_core::Decode;
+use pkcs8::PrivateKeyInfoRef;
+use spki::SubjectPublicKeyInfoRef;
+use std::test::Fail;
+
+// A private key with attributes, which are empty, and its public key, by themselves.
+const PRIVATE_KEY: &[u8] =
+    b"\x30\x53\x02\x01\x01\x30\x05\x06\x03\x2b\x65\x70\x04\x22\x04\x20\x11\x11\x11\x11\x11\x11\x11\x11\x11\x11\x11\x11\x11\x11\x11\x11\x11\x11\x11\x11\x11\x11\x11\x11\x11\x11\x11\x11\x11\x11\x11\x11\xa0\x00\x81\x21\x00\x4d\x29\x16\x7f\x3f\x19\x12\xa6\xf7\xad\xfa\x29\x3a\x05\x1a\x15\xc0\x5e\xc6\x7b\x8f\x17\x26\x7b\x1c\x55\x50\xdc\xe8\x53\xbd\x0d";
+
+const PUBLIC_KEY: &[u8] =
+    b"\x30\x2a\x30\x05\x06\x03\x2b\x65\x70\x03\x21\x00\x4d\x29\x16\x7f\x3f\x19\x12\xa6\xf7\xad\xfa\x29\x3a\x05\x1a\x15\xc0\x5e\xc6\x7b\x8f\x17\x26\x7b\x1c\x55\x50\xdc\xe8\x53\xbd\x0d";
+
+// An update whose one entry has these keys.
+const WITH_KEYS: &[u8] =
+    b"MIG9MIGcMIGZDBZzcGlmZmU6Ly9leGFtcGxlLm9yZy9hMFMCAQEwBQYDK2VwBCIEIBERERERERERERERERERERERERERERERERERERERERERoACBIQBNKRZ/PxkSpvet+ik6BRoVwF7Ge48XJnscVVDc6FO9DTAqMAUGAytlcAMhAE0pFn8/GRKm9636KToFGhXAXsZ7jxcmexxVUNzoU70NMBwwGgwLZXhhbXBsZS5vcmcEC3sia2V5cyI6W119";
+
+// Three entries, and three bundles.
+const THREE_ENTRIES: &[u8] =
+    b"MIG/MIGEMCoMDHNwaWZmZTovL2EveDANAgEAMAUGAytlcAQBETALMAUGAytlcAMCAE0wKgwMc3BpZmZlOi8vYS95MA0CAQAwBQYDK2VwBAERMAswBQYDK2VwAwIATTAqDAxzcGlmZmU6Ly9hL3owDQIBADAFBgMrZXAEAREwCzAFBgMrZXADAgBNMDYwEAwBYQQLeyJrZXlzIjpbXX0wEAwBYgQLeyJrZXlzIjpbXX0wEAwBYwQLeyJrZXlzIjpbXX0=";
+
+// Two bundles of one trust domain: the first with the key `k1`, the second with `k2`.
+const TWO_BUNDLES: &[u8] =
+    b"MIHKMHYwdAwWc3BpZmZlOi8vZXhhbXBsZS5vcmcvYTAuAgEAMAUGAytlcAQiBCARERERERERERERERERERERERERERERERERERERERERETAqMAUGAytlcAMhAE0pFn8/GRKm9636KToFGhXAXsZ7jxcmexxVUNzoU70NMFAwJgwLZXhhbXBsZS5vcmcEF3sia2V5cyI6W3sia2lkIjoiazEifV19MCYMC2V4YW1wbGUub3JnBBd7ImtleXMiOlt7ImtpZCI6ImsyIn1dfQ==";
+
+#[test]
+fn keys_are_lent(rt: HostRuntime) -> Result<(), Fail> {
+    let update = Update::read(rt.alloc(), WITH_KEYS, 500)?;
+    let private_key = PrivateKeyInfoRef::from_der(PRIVATE_KEY)?;
+    let public_key = SubjectPublicKeyInfoRef::from_der(PUBLIC_KEY)?;
+    let first = update.entries().next();
+    assert!(rt; first.is_some());
+    if let Some(identity) = first {
+        assert!(rt; identity.private_key() == private_key);
+        assert!(rt; identity.private_key().attributes.is_some());
+        assert!(rt; identity.public_key() == public_key);
+    }
+    Ok(())
+}
+
+#[test]
+fn entries_come_in_order(rt: HostRuntime) -> Result<(), Fail> {
+    let update = Update::read(rt.alloc(), THREE_ENTRIES, 500)?;
+    assert_eq!(rt; update.entries().len(), 3);
+    let mut paths = ["/x", "/y", "/z"].iter();
+    for identity in update.entries() {
+        assert_eq!(rt; Some(identity.id().path()), paths.next().copied());
+    }
+    assert!(rt; Entries::none().next().is_none());
+    Ok(())
+}
+
+#[test]
+fn last_bundle_is_kept(rt: HostRuntime) -> Result<(), Fail> {
+    let update = Update::read(rt.alloc(), TWO_BUNDLES, 500)?;
+    assert_eq!(rt; update.bundles().len(), 2);
+    assert_eq!(rt; update.bundle_set().len(), 1);
+    for (_, bundle) in update.bundle_set().iter() {
+        assert!(rt; bundle.find_jwt_authority("k1").is_none());
+        assert!(rt; bundle.find_jwt_authority("k2").is_some());
+    }
+    Ok(())
+}
+
+// Two texts, their width, and whether they write the same update.
+fn pairs() -> [(&'static [u8], &'static [u8], bool); 5] {
+    [
+        (
+            b"MIGWMHYwdAwWc3BpZmZlOi8vZXhhbXBsZS5vcmcvYTAuAgEAMAUGAytlcAQiBCARERERERERERERERERERERERERERERERERERERERERETAqMAUGAytlcAMhAE0pFn8/GRKm9636KToFGhXAXsZ7jxcmexxVUNzoU70NMBwwGgwLZXhhbXBsZS5vcmcEC3sia2V5cyI6W119",
+            b"MIGhMHYwdAwWU1BJRkZFOi8vRXhhbXBsZS5PUkcvYTAuAgEAMAUGAytlcAQiBCARERERERERERERERERERERERERERERERERERERERERETAqMAUGAytlcAMhAE0pFn8/GRKm9636KToFGhXAXsZ7jxcmexxVUNzoU70NMCcwJQwWc3BpZmZlOi8vRVhBTVBMRS5vcmcveAQLeyJrZXlzIjpbXX0=",
+            true,
+        ),
+        (
+            b"MIGWMHYwdAwWc3BpZmZlOi8vZXhhbXBsZS5vcmcvYTAuAgEAMAUGAytlcAQiBCARERERERERERERERERERERERERERERERERERERERERETAqMAUGAytlcAMhAE0pFn8/GRKm9636KToFGhXAXsZ7jxcmexxVUNzoU70NMBwwGgwLZXhhbXBsZS5vcmcEC3sia2V5cyI6W119",
+            b"MIGYMHgwdgwWc3BpZmZlOi8vZXhhbXBsZS5vcmcvYTAwAgEAMAUGAytlcAQiBCAREREREREREREREREREREREREREREREREREREREREREaAAMCowBQYDK2VwAyEATSkWfz8ZEqb3rfopOgUaFcBexnuPFyZ7HFVQ3OhTvQ0wHDAaDAtleGFtcGxlLm9yZwQLeyJrZXlzIjpbXX0=",
+            false,
+        ),
+        (
+            b"MIGWMHYwdAwWc3BpZmZlOi8vZXhhbXBsZS5vcmcvYTAuAgEAMAUGAytlcAQiBCARERERERERERERERERERERERERERERERERERERERERETAqMAUGAytlcAMhAE0pFn8/GRKm9636KToFGhXAXsZ7jxcmexxVUNzoU70NMBwwGgwLZXhhbXBsZS5vcmcEC3sia2V5cyI6W119",
+            b"MIGaMHoweAwWc3BpZmZlOi8vZXhhbXBsZS5vcmcvYTAyAgEAMAUGAytlcAQiBCAREREREREREREREREREREREREREREREREREREREREREaECBQAwKjAFBgMrZXADIQBNKRZ/PxkSpvet+ik6BRoVwF7Ge48XJnscVVDc6FO9DTAcMBoMC2V4YW1wbGUub3JnBAt7ImtleXMiOltdfQ==",
+            true,
+        ),
+        (
+            b"MCYwADAcMBoMC2V4YW1wbGUub3JnBAt7ImtleXMiOltdfYAEZ29uZQ==",
+            b"MCYwADAcMBoMC2V4YW1wbGUub3JnBAt7ImtleXMiOltdfYAEbG9zdA==",
+            false,
+        ),
+        (
+            b"MCYwADAcMBoMC2V4YW1wbGUub3JnBAt7ImtleXMiOltdfYAEZ29uZQ==",
+            b"MAowADAAgARnb25l",
+            false,
+        ),
+    ]
+}
+
+#[test]
+fn updates_are_compared(rt: HostRuntime) -> Result<(), Fail> {
+    for (first, second, same) in pairs() {
+        let first = Update::read(rt.alloc(), first, 400)?;
+        let second = Update::read(rt.alloc(), second, 400)?;
+        assert_eq!(rt; first == second, same);
+    }
+    Ok(())
+}

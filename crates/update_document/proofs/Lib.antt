@@ -1,0 +1,4 @@
+pub mod DocumentLaws
+pub mod PlainReads
+pub mod FitsLaws
+pub mod OneLaws

@@ -1,0 +1,6 @@
+-- What the contracts of this crate cite.
+pub mod Document
+pub mod DocumentFields
+pub mod Written
+pub mod Spelling
+pub mod Refs
