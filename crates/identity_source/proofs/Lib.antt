@@ -1,5 +1,7 @@
-pub mod FieldLaws
-pub mod DocumentLaws
-pub mod PlainLaws
-pub mod ReadingLaws
-pub mod TextLaws
+pub mod Covers
+pub mod Histories
+pub mod Panes
+pub mod Readers
+pub mod Sources
+pub mod Steps
+mod Revisions

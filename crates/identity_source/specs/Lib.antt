@@ -1,8 +1,19 @@
-pub mod Document
-pub mod Fields
-pub mod Names
-pub mod Views
-pub mod Shown
-pub mod PlainParts
-pub mod Reading
-pub mod UpdateError
+-- What the contracts of this crate cite.
+pub mod State
+pub mod History
+pub mod NamedList
+pub mod Verdict
+pub mod Sight
+pub mod Reader
+pub mod Content
+pub mod Attempts
+pub mod SourceParts
+pub mod Rule
+pub mod Pane
+pub use Rattle.identity_io.specs.Causes
+pub use Rattle.spiffe_core.specs.JwtBundleSet
+pub use Rattle.identity_update.specs.Parts
+pub use Rattle.identity_update.specs.Bundle
+pub use Rattle.identity_update.specs.BundleMap
+pub use Rattle.identity_update.specs.Lawful
+pub use Rattle.identity_update.specs.Reading

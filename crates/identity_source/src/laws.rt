@@ -1,15 +1,11 @@
-//! Laws of reading, each as the contract of a function.
-ghost use Rattle.std.specs.Prelude.{◌≡◌, ◌≢◌, Err, List, Result, ℕ};
-ghost use Rattle.identity_source.specs.Reading.{Reading};
-ghost use Rattle.identity_source.specs.Shown.{Shown};
+//! Laws of lists of states, each as the contract of a function that does no work.
+ghost use Rattle.std.specs.Prelude.{◌≡◌, List};
+ghost use Rattle.identity_source.specs.History.{EndsWith, IsHistory, StartsWith};
+ghost use Rattle.identity_source.specs.State.{PlainState};
 
-use crate::UpdateError;
-use base64ct::{Base64, text_has_one_value};
-
-/// A text of a width has one reading, want of memory aside: at most one update, or at most one broken rule, and never both.
-pub fn text_has_one_reading()
-    ensures { (width : ℕ) (text : List ℕ) (r s : Result Shown UpdateError) → Reading width text r → Reading width text s
-        → r ≢ Err UpdateError.OutOfMemory → s ≢ Err UpdateError.OutOfMemory → r ≡ s }
-{
-    text_has_one_value::<Base64>();
-}
+/// A list has one last state, and a revision names one state: where a list begins with another, and both end in states of one revision, these are one state. So what a reader gives at the revision of a receipt that it was told is the receipt's state.
+pub fn states_are_told_by_revision()
+    ensures last { (list : List PlainState) (x y : PlainState) → EndsWith list x → EndsWith list y → y ≡ x }
+    ensures revision { (whole seen : List PlainState) (x y : PlainState) → IsHistory whole → IsHistory seen → StartsWith whole seen
+        → EndsWith seen x → EndsWith whole y → y.revision ≡ x.revision → y ≡ x }
+{}

@@ -1,15 +1,35 @@
-//! Updates: SPIFFE identities with their key pairs, and trust bundles with their key sets, read from a document in DER that is written as Base64 in lines. Today it reads plain updates, of one identity and one bundle without keys.
+//! The identity source: one owner applies updates, and readers on any thread get whole states without waiting. A source, its readers and its receipts stand for one list of states: `apply` appends one state or nothing, and a reader never goes back behind what it gave or was told of.
 #![tactic(auto)]
 
+mod attempt;
 mod error;
-mod fields;
-mod laws;
-mod names;
-mod plain;
-mod plain_parts;
-mod update;
+mod glance;
+mod kept_reader;
+pub mod laws;
+mod memo;
+mod missing;
+mod open;
+mod pane;
+mod publish;
+mod published;
+mod receipt;
+mod round;
+mod rule;
+mod snapshot;
+mod source;
+mod state;
+mod threads;
+mod window;
 
-pub use error::UpdateError;
-pub use laws::text_has_one_reading;
-pub use plain_parts::PlainParts;
-pub use update::Update;
+pub use error::SourceError;
+pub use identity_update::{BundleParts, Entries, Identity, Update, UpdateError};
+pub use kept_reader::{IdentityReader, KeptReader, Look};
+pub use missing::Missing;
+pub use pane::Pane;
+pub use receipt::Receipt;
+pub use snapshot::Snapshot;
+pub use source::IdentitySource;
+pub use window::{Missed, Window};
+
+#[cfg(test)]
+mod tests;

@@ -1,0 +1,81 @@
+-- What contracts see of a window, and what its calls do.
+use Rattle.std.specs.Prelude.{◌≡◌, ℕ, ◌≤◌, Bool, true, false, cond, nat_le, List, ◌∷◌, length}
+use Rattle.identity_io.specs.Causes.{Rose}
+use Rattle.identity_source.specs.State.{PlainState}
+use Rattle.identity_source.specs.History.{IsHistory, StartsWith, EndsWith, EachBegins}
+use Rattle.identity_source.specs.NamedList.{SourceName}
+use Rattle.identity_source.specs.declared.window.Missed.{Missed}
+use Rattle.identity_source.specs.declared.window.Missed.TheVariants.{NoPlace, NoGuard, OutOfMemory}
+
+-- the source's name, the list that was seen, lists that it must begin with from the next look on, and counts of looks, misses and refused shares
+pub record Sight : Type 0 where
+  pub name : SourceName
+  pub seen : List PlainState
+  pub olds : List (List PlainState)
+  pub looks : ℕ
+  pub misses : ℕ
+  pub refused : ℕ
+  pub is_live : Bool
+
+-- what entering never changes, and counts that don't fall
+pub record Goes (a b : Sight) : Type 0 where
+  pub name : b.name ≡ a.name
+  pub is_live : b.is_live ≡ a.is_live
+  pub looks : a.looks ≤ b.looks
+  pub misses : a.misses ≤ b.misses
+  pub refused : a.refused ≤ b.refused
+  pub olds : b.olds ≡ a.olds
+
+-- a look that gave the state x, the last of a list that begins with all that was seen and told
+pub record Looked (a b : Sight) (x : PlainState) : Type 0 where
+  pub live : a.is_live ≡ true
+  pub rose : Rose a.looks b.looks
+  pub more : StartsWith b.seen a.seen
+  pub all : EachBegins b.seen a.olds
+  pub last : EndsWith b.seen x
+  pub history : IsHistory b.seen
+
+-- a live window found no state, and its list may have grown
+pub record MissedLive (a b : Sight) (before now : ℕ) : Type 0 where
+  pub live : a.is_live ≡ true
+  pub rose : Rose before now
+  pub more : StartsWith b.seen a.seen
+  pub history : IsHistory b.seen
+
+-- a window without a place finds no state
+pub record MissedWithoutPlace (a b : Sight) : Type 0 where
+  pub dead : a.is_live ≡ false
+  pub rose : Rose a.misses b.misses
+  pub same : b.seen ≡ a.seen
+
+-- why a look missed
+abbrev pub MissedBy : Sight → Sight → Missed → Type 0
+MissedBy a b NoPlace = MissedWithoutPlace a b
+MissedBy a b NoGuard = MissedLive a b a.misses b.misses
+MissedBy a b OutOfMemory = MissedLive a b a.refused b.refused
+
+-- the longer list, and the second where they are equally long
+abbrev pub longer : List PlainState → List PlainState → List PlainState
+longer xs ys = cond (nat_le (length xs) (length ys)) ys xs
+
+-- a live window took the list in
+pub record TookIn (a b : Sight) (list : List PlainState) : Type 0 where
+  pub seen : b.seen ≡ longer a.seen list
+  pub olds : b.olds ≡ a.seen ∷ list ∷ a.olds
+
+pub record SameLists (a b : Sight) : Type 0 where
+  pub seen : b.seen ≡ a.seen
+  pub olds : b.olds ≡ a.olds
+
+-- a receipt's list was told
+pub record Learned (a b : Sight) (list : List PlainState) : Type 0 where
+  pub name : b.name ≡ a.name
+  pub is_live : b.is_live ≡ a.is_live
+  pub looks : b.looks ≡ a.looks
+  pub misses : b.misses ≡ a.misses
+  pub refused : b.refused ≡ a.refused
+  pub live : a.is_live ≡ true → TookIn a b list
+  pub dead : a.is_live ≡ false → SameLists a b
+
+abbrev pub with_misses : Sight → ℕ → Sight
+with_misses s n = record s { misses = n }

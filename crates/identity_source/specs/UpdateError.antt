@@ -1,9 +1,0 @@
--- Which refusal of an update a refusal of its text is.
-use Rattle.base64ct.specs.declared.errors.Error.{Error}
-use Rattle.base64ct.specs.declared.errors.Error.TheVariants as base64
-use Rattle.identity_source.specs.declared.error.UpdateError.{UpdateError}
-use Rattle.identity_source.specs.declared.error.UpdateError.TheVariants.{OutOfMemory, Text}
-
-abbrev pub text_error : Error → UpdateError
-text_error base64.OutOfMemory = OutOfMemory
-text_error cause = Text cause

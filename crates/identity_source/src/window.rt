@@ -1,0 +1,41 @@
+//! How a reader looks at what is published.
+ghost use Rattle.std.specs.Prelude.{◌≡◌, IfErr, IfOk};
+ghost use Rattle.identity_source.specs.History.{EndsWith};
+ghost use Rattle.identity_source.specs.Sight.{Goes, Learned, Looked, MissedBy, Sight};
+
+use crate::receipt::Receipt;
+use crate::snapshot::Snapshot;
+
+/// Why a window gave no state.
+#[derive(Clone, Copy, Debug, PartialEq, Eq)]
+pub enum Missed {
+    /// It has no place at what is published.
+    NoPlace,
+    /// It was not let in, as when the source is closed.
+    NoGuard,
+    /// A share of the state was refused.
+    OutOfMemory,
+}
+
+/// A view of what a source publishes.
+///
+/// Contracts see the source's name, the list that was seen, what it must begin with from the next look on, and three counts, of looks, misses and refused shares. A count that stands at 2^64 - 1 counts as risen.
+pub trait Window {
+    ghost sight: { Self → Sight };
+
+    /// The last state of what is published now, a share of it. This never waits.
+    fn enter(&mut self) -> Result<Snapshot, Missed>
+        ensures looked { IfOk result (Looked (sight self.old) (sight self.new)) }
+        ensures missed { IfErr result (MissedBy (sight self.old) (sight self.new)) }
+        ensures goes { Goes (sight self.old) (sight self.new) };
+
+    /// Takes in the list of a receipt of the same source, and gives its last state.
+    fn learn(&mut self, receipt: Receipt) -> Snapshot
+        requires { receipt.name ≡ (sight self.old).name }
+        ensures last { EndsWith receipt.list result }
+        ensures learned { Learned (sight self.old) (sight self.new) receipt.list };
+
+    /// Whether it has a place. This never changes.
+    fn live(&self) -> bool
+        ensures { result ≡ (sight self.now).is_live };
+}
