@@ -1,0 +1,6 @@
+pub mod Status
+pub mod Words
+pub mod Printed
+pub mod Report
+pub mod Refusal
+pub mod Outcome

@@ -1,0 +1,75 @@
+//! Exit statuses.
+ghost use Rattle.std.specs.Prelude.{◌≡◌, ◌≤◌, ◌↔◌, IsNone};
+ghost use Rattle.identity_commands.specs.Status.{status_number};
+
+use identity_io::ReadError;
+
+/// How a command ended.
+#[derive(Clone, Copy, Debug, PartialEq, Eq)]
+pub enum Status {
+    /// The command did what it was asked to do.
+    Done,
+
+    /// The update was refused, and the line of its refusal was written.
+    Refused,
+
+    /// The words are no command.
+    Usage,
+
+    /// The input failed.
+    SourceFailed,
+
+    /// The output failed.
+    SinkFailed,
+
+    /// No memory was left.
+    OutOfMemory,
+
+    /// The input is longer than the command takes.
+    TooLong,
+}
+
+impl Status {
+    /// The exit status of the program.
+    pub fn number(self) -> u8
+        ensures { result ≡ status_number self }
+    {
+        match self {
+            Status::Done => 0,
+            Status::Refused => 1,
+            Status::Usage => 2,
+            Status::SourceFailed => 3,
+            Status::SinkFailed => 4,
+            Status::OutOfMemory => 5,
+            Status::TooLong => 6,
+        }
+    }
+
+    /// What a person at the terminal is told, none where the output says it.
+    pub fn notice(self) -> Option<&'static str>
+        ensures { IsNone result ↔ (status_number self ≤ 1) }
+    {
+        match self {
+            Status::Done | Status::Refused => None,
+            Status::Usage => Some("usage: identity_tool show WIDTH < UPDATE"),
+            Status::SourceFailed => Some("the input could not be read"),
+            Status::SinkFailed => Some("the output could not be written"),
+            Status::OutOfMemory => Some("no memory was left"),
+            Status::TooLong => Some("the input has more than 16777216 bytes"),
+        }
+    }
+}
+
+impl From<ReadError> for Status {
+    ghost use Rattle.identity_commands.specs.Status.{read_status};
+
+    ghost from_gives = { λ error status. status ≡ read_status error };
+
+    fn from(error: ReadError) -> Self {
+        match error {
+            ReadError::Failed => Status::SourceFailed,
+            ReadError::TooLong => Status::TooLong,
+            ReadError::OutOfMemory => Status::OutOfMemory,
+        }
+    }
+}
