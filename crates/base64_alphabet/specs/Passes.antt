@@ -8,9 +8,13 @@ use Rattle.base64_alphabet.specs.declared.alphabet.EncodeStep.TheVariants.{Apply
 use Rattle.base64_alphabet.specs.declared.alphabet.DecodeStep.{DecodeStep}
 use Rattle.base64_alphabet.specs.declared.alphabet.DecodeStep.TheVariants.{Range, Eq}
 
--- all bits set where lo < c < hi, else 0
+-- negative exactly where a ≤ c ≤ z
+abbrev pub common_sign : ℕ → ℕ → ℕ → ℤ
+common_sign a z c = int_bit_and w16 ((pos a -ℤ pos 1) -ℤ pos c) (pos c -ℤ (pos z +ℤ pos 1))
+
+-- all bits set there, else 0
 abbrev pub between : ℕ → ℕ → ℕ → ℤ
-between a z c = int_shr (int_bit_and w16 ((pos a -ℤ pos 1) -ℤ pos c) (pos c -ℤ (pos z +ℤ pos 1))) 8
+between a z c = int_shr (common_sign a z c) 8
 
 -- what a step adds at the character c
 abbrev pub added_by : DecodeStep → ℕ → ℤ

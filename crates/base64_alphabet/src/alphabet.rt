@@ -3,7 +3,7 @@
 
 ghost use Rattle.std.specs.Prelude.{◌≡◌, ℕ, ◌<◌, ◌≤◌, ◌+◌, ◌++◌, List, Bool, IsTrue, ℤ, pos, ◌≤ℤ◌, length, true, false, slice_index, unsigned_abs, drop, map, if◌then◌else◌};
 ghost use Rattle.base64_alphabet.specs.Table.{place_of, is_table, all_in, IsPlace};
-ghost use Rattle.base64_alphabet.specs.Passes.{decodes, value_fits, added_by, encodes, turned_by, turned_fits};
+ghost use Rattle.base64_alphabet.specs.Passes.{decodes, value_fits, added_by, common_sign, encodes, turned_by, turned_fits};
 ghost use Rattle.base64_alphabet.specs.Group.{End, number, bytes_of_places, digits_of_number, bytes_of, answer_of, sextet, characters_of};
 
 pub mod shacrypt;
@@ -70,11 +70,11 @@ pub trait Alphabet: 'static + Copy + Debug + Eq + Sized {
             (slice_index src.now 2) (slice_index src.now 3) ++ drop 3 dst.old }
         ensures rest { drop 3 dst.new ≡ drop 3 dst.old }
     {
-        let c0 = Self::decode_6bits(src[0]);
-        let c1 = Self::decode_6bits(src[1]);
-        let c2 = Self::decode_6bits(src[2]);
-        let c3 = Self::decode_6bits(src[3]);
-        Self::group_3bytes(c0, c1, c2, c3, dst)
+        let first = Self::decode_6bits(src[0]);
+        let second = Self::decode_6bits(src[1]);
+        let third = Self::decode_6bits(src[2]);
+        let fourth = Self::decode_6bits(src[3]);
+        Self::group_3bytes(first, second, third, fourth, dst)
     }
 
     /// Converts a character to its place in the table, or to -1.
@@ -165,11 +165,11 @@ pub trait Alphabet: 'static + Copy + Debug + Eq + Sized {
         ensures rest { drop 3 dst.new ≡ drop 3 dst.old }
         ensures steps { steps.new ≡ steps.old + 4 }
     {
-        let c0 = Self::decode_6bits_counted(src[0], steps);
-        let c1 = Self::decode_6bits_counted(src[1], steps);
-        let c2 = Self::decode_6bits_counted(src[2], steps);
-        let c3 = Self::decode_6bits_counted(src[3], steps);
-        Self::group_3bytes(c0, c1, c2, c3, dst)
+        let first = Self::decode_6bits_counted(src[0], steps);
+        let second = Self::decode_6bits_counted(src[1], steps);
+        let third = Self::decode_6bits_counted(src[2], steps);
+        let fourth = Self::decode_6bits_counted(src[3], steps);
+        Self::group_3bytes(first, second, third, fourth, dst)
     }
 
     /// `encode_3bytes`, counted.
@@ -220,24 +220,26 @@ pub enum DecodeStep {
 }
 
 impl DecodeStep {
-    // All bits of a difference are set exactly within the range, so that no branch tells the character.
     fn added(&self, src: u8) -> i16
         requires { IsTrue (value_fits self.now src) }
         ensures { result ≡ added_by self.now src }
     {
         match self {
             DecodeStep::Range(first, last, offset) => {
-                let start = *first as i16 - 1;
-                let end = *last as i16 + 1;
-                (((start - src as i16) & (src as i16 - end)) >> 8) & (src as i16 + *offset)
+                (common_sign(*first, *last, src) >> 8) & (src as i16 + *offset)
             }
-            DecodeStep::Eq(value, offset) => {
-                let start = *value as i16 - 1;
-                let end = *value as i16 + 1;
-                (((start - src as i16) & (src as i16 - end)) >> 8) & *offset
-            }
+            DecodeStep::Eq(value, offset) => (common_sign(*value, *value, src) >> 8) & *offset,
         }
     }
+}
+
+// The sign that two differences have in common: negative exactly where the byte stands from the first to the last, so that no branch tells which it is.
+fn common_sign(first: u8, last: u8, byte: u8) -> i16
+    ensures { result ≡ common_sign first last byte }
+{
+    let above_first = first as i16 - 1 - byte as i16;
+    let below_last = byte as i16 - (last as i16 + 1);
+    above_first & below_last
 }
 
 /// A pass of `encode_6bits`, which adds to a sum that begins at the place plus `BASE`.

@@ -7,8 +7,6 @@ mod alphabet;
 mod blocks;
 mod groups;
 mod steps;
-#[cfg(test)]
-mod tests;
 
 pub use crate::alphabet::shacrypt::Base64ShaCrypt;
 pub use crate::alphabet::standard::{Base64, Base64Unpadded};

@@ -5,8 +5,6 @@
 mod bcrypt;
 mod crypt;
 mod pbkdf2;
-#[cfg(test)]
-mod tests;
 mod url;
 
 pub use crate::bcrypt::Base64Bcrypt;

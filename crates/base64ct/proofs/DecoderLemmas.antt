@@ -195,14 +195,16 @@ encoding_all P end table false b h pad bytes = All-append P (characters end tabl
 pub encoding_line : (end : End) (table : List ℕ) (padded : Bool) (b : List ℕ) → Facts table → IsBytes b → IsLine (encoding_of end table padded b)
 encoding_line end table padded b f bytes = encoding_all NoBreak end table padded b (λ k lt. at_place table k f lt) refl bytes
 
-ascii_from_all : (xs : List ℕ) → All (λ c. c < 128) xs → IsAscii xs
+pub ascii_from_all : (xs : List ℕ) → All (λ c. c < 128) xs → IsAscii xs
 ascii_from_all [] h i = omega arith
 ascii_from_all (x ∷ xs) h zero = h 0 0 (omega arith)
 ascii_from_all (x ∷ xs) h (suc i) = ascii_from_all xs (All-tail (λ c. c < 128) x xs h) i
 
+pub encoding_all_ascii : (end : End) (table : List ℕ) (padded : Bool) (b : List ℕ) → Facts table → IsBytes b → All (λ c. c < 128) (encoding_of end table padded b)
+encoding_all_ascii end table padded b f bytes = encoding_all (λ c. c < 128) end table padded b (λ k lt. ascii_at table f.ascii k) (omega arith) bytes
+
 pub encoding_ascii : (end : End) (table : List ℕ) (padded : Bool) (b : List ℕ) → Facts table → IsBytes b → IsAscii (encoding_of end table padded b)
-encoding_ascii end table padded b f bytes = ascii_from_all (encoding_of end table padded b)
-    (encoding_all (λ c. c < 128) end table padded b (λ k lt. ascii_at table f.ascii k) (omega arith) bytes)
+encoding_ascii end table padded b f bytes = ascii_from_all (encoding_of end table padded b) (encoding_all_ascii end table padded b f bytes)
 
 -- ---- texts in lines
 

@@ -1,5 +1,5 @@
 -- An encoding by its whole groups and its rest.
-use Rattle.std.proofs.Common.{◌≡◌, ℕ, ◌+◌, ◌-◌, ◌*◌, ◌/◌, ◌%◌, ◌≤◌, Bool, true, false, List, [], ◌∷◌, ◌++◌, length, take, drop, arith, refl, ap, sym, ◌∙◌, length-append, replicate, Result, Ok, Err, IfOk}
+use Rattle.std.proofs.Common.{◌≡◌, ℕ, ◌+◌, ◌-◌, ◌*◌, ◌/◌, ◌%◌, ◌<◌, ◌≤◌, Bool, true, false, List, [], ◌∷◌, ◌++◌, length, take, drop, arith, refl, ap, sym, ◌∙◌, length-append, replicate, Result, Ok, Err, IfOk}
 use Rattle.std.proofs.lemmas.Grind.{common_steps}
 use Rattle.std.proofs.lemmas.List.{take-append-drop, take_at}
 use Rattle.std.proofs.lemmas.Slice.{take-put_mid}
@@ -72,3 +72,7 @@ encoded_text end table src dst tail new rest padded q k at room was is len text 
     ∙ rw (was, is) (ap (λ xs. xs ++ rest) (take_at _ _ _ g) ∙ ap (λ ys. characters end table (take (3 * q) src) ++ ys) text
     ∙ sym (encoding_of-append end table (take (3 * q) src) (drop (3 * q) src) padded three)
     ∙ ap (encoding_of end table padded) (take-append-drop (3 * q) src))
+
+pub encoding_some : (end : End) (table : List ℕ) (padded : Bool) (b : List ℕ) → 0 < length b → 0 < length (encoding_of end table padded b)
+encoding_some end table true b some = let e = length-encoding_of end table b true in omega arith
+encoding_some end table false b some = let e = length-encoding_of end table b false in omega arith

@@ -9,3 +9,6 @@ pub mod EncodingLemmas
 pub mod DecoderLemmas
 pub mod LooseLemmas
 pub mod CountLemmas
+pub mod WrappingLemmas
+pub mod EncoderLemmas
+pub mod WrittenLemmas

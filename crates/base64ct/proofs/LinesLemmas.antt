@@ -219,7 +219,7 @@ Lines-unique w text t u low x y = sym ((lines_are w text t low x).is_joined) ∙
 
 -- ---- back: pieces without CR and LF are lines
 
-line_parts : (xs ys : List ℕ) → IsLine (xs ++ ys) → IsLine xs × IsLine ys
+pub line_parts : (xs ys : List ℕ) → IsLine (xs ++ ys) → IsLine xs × IsLine ys
 line_parts [] ys h = (λ k d lt. absurd (omega arith), h)
 line_parts (x ∷ xs) ys h =
     let P : ℕ → Type 0 = λ c. is_line_break c ≡ false in

@@ -5,3 +5,7 @@ pub mod LastBlock
 pub mod Items
 pub mod Walk
 pub mod Counts
+pub mod Wrapping
+pub mod LineWrapper
+pub mod Encoder
+pub mod Written

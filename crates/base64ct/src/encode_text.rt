@@ -72,6 +72,27 @@ fn encode_from<E: Alphabet, L: Ledger>(src: &[u8], dst: &mut [u8], blank: Blank)
     encode_fitting::<E, L>(src, dst, &mut steps)
 }
 
+/// `encode_into` without a count.
+pub(crate) fn encode_front<E: Alphabet>(src: &[u8], dst: &mut [u8]) -> usize
+    requires room { encoded_len E.PADDED (length src.now) ≤ length dst.old }
+    ensures len { result ≡ encoded_len E.PADDED (length src.now) }
+    ensures text { take result dst.new ≡ encoding_of E.end E.table E.PADDED src.now }
+{
+    front_from::<E, Brand>(src, dst, Blank::new(1))
+}
+
+fn front_from<E: Alphabet, L: Ledger>(src: &[u8], dst: &mut [u8], blank: Blank) -> usize
+    requires name { blank.name ≡ L.name }
+    requires parts { blank.parts ≡ L.parts }
+    requires share { 0 < blank.parts }
+    requires room { encoded_len E.PADDED (length src.now) ≤ length dst.old }
+    ensures len { result ≡ encoded_len E.PADDED (length src.now) }
+    ensures text { take result dst.new ≡ encoding_of E.end E.table E.PADDED src.now }
+{
+    let mut steps = Steps::<L>::new(blank);
+    encode_into::<E, L>(src, dst, &mut steps)
+}
+
 /// ASCII bytes as a text.
 pub(crate) fn ascii_text(bytes: &[u8]) -> &str
     requires { IsAscii bytes.now }

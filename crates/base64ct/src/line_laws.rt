@@ -1,8 +1,12 @@
 //! Laws of texts in lines, each as the contract of a function.
 #![tactic(auto)]
 
-ghost use Rattle.std.specs.Prelude.{◌≡◌, ◌<◌, List, ℕ};
-ghost use Rattle.base64ct.specs.Lines.{IsWrappedText, Lines};
+ghost use Rattle.std.specs.Prelude.{◌≡◌, ◌<◌, List, ℕ, length};
+ghost use Rattle.base64_alphabet.specs.Encoding.{encoding_of};
+ghost use Rattle.base64ct.specs.Canonical.{IsBytes};
+ghost use Rattle.base64ct.specs.Lines.{IsLine, IsWrappedText, Lines};
+ghost use Rattle.base64ct.specs.Wrapping.{wrapped};
+ghost use Rattle.base64ct.specs.declared.line_ending.LineEnding.{LineEnding};
 
 use base64_alphabet::Alphabet;
 
@@ -15,4 +19,23 @@ pub fn lines_have_one_join()
 pub fn text_has_one_value<E: Alphabet>()
     ensures { (width : ℕ) (text a b : List ℕ) → 0 < width → IsWrappedText E.end E.table E.PADDED width text a
         → IsWrappedText E.end E.table E.PADDED width text b → a ≡ b }
+{}
+
+/// A text that is cut into lines joins to that text again.
+pub fn wrapped_text_is_lines()
+    ensures { (width : ℕ) (ending : LineEnding) (t : List ℕ) → 0 < width → 0 < length t → IsLine t
+        → Lines width (wrapped width ending t) t }
+{}
+
+/// At one width and with one ending, texts are equal where their lines are.
+pub fn wrapping_is_injective()
+    ensures { (width : ℕ) (ending : LineEnding) (t u : List ℕ) → 0 < width
+        → wrapped width ending t ≡ wrapped width ending u → t ≡ u }
+{}
+
+/// The encoding of at least one byte, cut into lines, writes these bytes: a decoder of lines of that width gives
+/// back what an encoder took.
+pub fn wrapped_encoding_is_read_back<E: Alphabet>()
+    ensures { (width : ℕ) (ending : LineEnding) (b : List ℕ) → 0 < width → 0 < length b → IsBytes b
+        → IsWrappedText E.end E.table E.PADDED width (wrapped width ending (encoding_of E.end E.table E.PADDED b)) b }
 {}

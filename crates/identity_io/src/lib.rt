@@ -1,4 +1,14 @@
 //! Byte sources and sinks that count their faults, so that a contract can say what caused an answer: the traits, forms in memory that fail on demand, adapters over std's readers and writers, and reading or writing a whole input.
+//!
+//! ```text
+//! let mut source = MemorySource::new(b"bytes", &[1], 2);
+//! assert_eq!(source.read(&mut piece), Ok(2));
+//! assert_eq!(source.read(&mut piece), Err(Failed));
+//!
+//! let mut sink = SureSink::new(&mut room);
+//! write_all(&mut sink, &read_all(alloc, &mut source)?)?;
+//! assert_eq!(sink.written(), b"tes");
+//! ```
 #![tactic(auto)]
 
 mod disk;

@@ -7,20 +7,20 @@ use Rattle.base64_alphabet.proofs.alphabet.Alphabet.decode_3bytes.Goals as goal
 pub returns-clause-answer : goal.returns-clause-answer
 returns-clause-answer g c =
     let r : to_z w16 (of_z w16 c.group_3bytes.result) ≡ c.group_3bytes.result = omega (arith, ints) in
-    let e0 : to_z w16 (of_z w16 c.decode_6bits-c0.result) ≡ c.decode_6bits-c0.result = omega (arith, ints) in
-    let e1 : to_z w16 (of_z w16 c.decode_6bits-c1.result) ≡ c.decode_6bits-c1.result = omega (arith, ints) in
-    let e2 : to_z w16 (of_z w16 c.decode_6bits-c2.result) ≡ c.decode_6bits-c2.result = omega (arith, ints) in
-    let e3 : to_z w16 (of_z w16 c.decode_6bits-c3.result) ≡ c.decode_6bits-c3.result = omega (arith, ints) in
-    rw (r, c.group_3bytes.ensures.answer, e0, c.decode_6bits-c0.ensures.place, e1, c.decode_6bits-c1.ensures.place, e2, c.decode_6bits-c2.ensures.place, e3, c.decode_6bits-c3.ensures.place) (four_answer g.Self.Alphabet.table c.args.src.now c.requires.four)
+    let e0 : to_z w16 (of_z w16 c.decode_6bits-first.result) ≡ c.decode_6bits-first.result = omega (arith, ints) in
+    let e1 : to_z w16 (of_z w16 c.decode_6bits-second.result) ≡ c.decode_6bits-second.result = omega (arith, ints) in
+    let e2 : to_z w16 (of_z w16 c.decode_6bits-third.result) ≡ c.decode_6bits-third.result = omega (arith, ints) in
+    let e3 : to_z w16 (of_z w16 c.decode_6bits-fourth.result) ≡ c.decode_6bits-fourth.result = omega (arith, ints) in
+    rw (r, c.group_3bytes.ensures.answer, e0, c.decode_6bits-first.ensures.place, e1, c.decode_6bits-second.ensures.place, e2, c.decode_6bits-third.ensures.place, e3, c.decode_6bits-fourth.ensures.place) (four_answer g.Self.Alphabet.table c.args.src.now c.requires.four)
 
 pub returns-clause-written : goal.returns-clause-written
 returns-clause-written g c h =
-    let e0 : to_z w16 (of_z w16 c.decode_6bits-c0.result) ≡ c.decode_6bits-c0.result = omega (arith, ints) in
-    let e1 : to_z w16 (of_z w16 c.decode_6bits-c1.result) ≡ c.decode_6bits-c1.result = omega (arith, ints) in
-    let e2 : to_z w16 (of_z w16 c.decode_6bits-c2.result) ≡ c.decode_6bits-c2.result = omega (arith, ints) in
-    let e3 : to_z w16 (of_z w16 c.decode_6bits-c3.result) ≡ c.decode_6bits-c3.result = omega (arith, ints) in
+    let e0 : to_z w16 (of_z w16 c.decode_6bits-first.result) ≡ c.decode_6bits-first.result = omega (arith, ints) in
+    let e1 : to_z w16 (of_z w16 c.decode_6bits-second.result) ≡ c.decode_6bits-second.result = omega (arith, ints) in
+    let e2 : to_z w16 (of_z w16 c.decode_6bits-third.result) ≡ c.decode_6bits-third.result = omega (arith, ints) in
+    let e3 : to_z w16 (of_z w16 c.decode_6bits-fourth.result) ≡ c.decode_6bits-fourth.result = omega (arith, ints) in
     let s0 = sextet_is g.Self.Alphabet.table (slice_index c.args.src.now 0) (all_in_at g.Self.Alphabet.table c.args.src.now h 0 (omega arith)) in
     let s1 = sextet_is g.Self.Alphabet.table (slice_index c.args.src.now 1) (all_in_at g.Self.Alphabet.table c.args.src.now h 1 (omega arith)) in
     let s2 = sextet_is g.Self.Alphabet.table (slice_index c.args.src.now 2) (all_in_at g.Self.Alphabet.table c.args.src.now h 2 (omega arith)) in
     let s3 = sextet_is g.Self.Alphabet.table (slice_index c.args.src.now 3) (all_in_at g.Self.Alphabet.table c.args.src.now h 3 (omega arith)) in
-    rw (c.group_3bytes.ensures.written, e0, c.decode_6bits-c0.ensures.place, e1, c.decode_6bits-c1.ensures.place, e2, c.decode_6bits-c2.ensures.place, e3, c.decode_6bits-c3.ensures.place, s0, s1, s2, s3)
+    rw (c.group_3bytes.ensures.written, e0, c.decode_6bits-first.ensures.place, e1, c.decode_6bits-second.ensures.place, e2, c.decode_6bits-third.ensures.place, e3, c.decode_6bits-fourth.ensures.place, s0, s1, s2, s3)

@@ -1,5 +1,0 @@
-use Rattle.base64_alphabets.proofs.tests.converts.Given as goal
-
--- the count is of a ledger of its own
-abbrev pub ghosts-converts_counting : goal.ghosts-converts_counting
-ghosts-converts_counting g a = record { name = a.blank.name; parts = a.blank.parts }

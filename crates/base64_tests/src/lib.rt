@@ -1,0 +1,11 @@
+//! Tests of `base64_alphabet`, `base64_alphabets` and `base64ct`, over their public items alone.
+#![tactic(auto)]
+
+#[cfg(test)]
+mod alphabets;
+#[cfg(test)]
+mod encoders;
+#[cfg(test)]
+mod groups;
+#[cfg(test)]
+mod texts;

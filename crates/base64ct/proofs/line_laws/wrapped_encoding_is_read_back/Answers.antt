@@ -1,0 +1,18 @@
+use Rattle.std.proofs.Common.{refl}
+use Rattle.base64_alphabet.specs.Encoding.{encoding_of}
+use Rattle.base64_alphabet.proofs.TableLemmas.{facts}
+use Rattle.base64ct.proofs.DecoderLemmas.{encoding_line}
+use Rattle.base64ct.proofs.EncodingLemmas.{encoding_some}
+use Rattle.base64ct.proofs.WrappingLemmas.{wrapped_lines}
+use Rattle.base64ct.proofs.line_laws.wrapped_encoding_is_read_back.Goals as goal
+
+pub returns : goal.returns
+returns g c = λ width ending b low some bytes.
+    let f = facts g.E.Alphabet.table g.met.E.Alphabet.lawful in (
+      encoding_of g.E.Alphabet.end g.E.Alphabet.table g.E.Alphabet.PADDED b,
+      wrapped_lines width ending (encoding_of g.E.Alphabet.end g.E.Alphabet.table g.E.Alphabet.PADDED b) low
+          (encoding_some g.E.Alphabet.end g.E.Alphabet.table g.E.Alphabet.PADDED b some)
+          (encoding_line g.E.Alphabet.end g.E.Alphabet.table g.E.Alphabet.PADDED b f bytes),
+      refl,
+      bytes,
+    )

@@ -1,0 +1,24 @@
+-- What an encoder is seen as, and the text that it writes.
+use Rattle.std.specs.Prelude.{ℕ, ◌*◌, ◌/◌, List, length, take, Option, Some, None}
+use Rattle.base64ct.specs.Wrapping.{wrapped, wrapped_len}
+use Rattle.base64ct.specs.declared.line_ending.LineEnding.{LineEnding}
+
+-- the bytes taken, the length of the output, and the width and the ending of its lines if it has these
+pub record Progress : Type 0 where
+  pub taken : List ℕ
+  pub room : ℕ
+  pub lines : Option (ℕ × LineEnding)
+
+-- a text in an encoder's lines: without a width it is as it was
+abbrev pub in_lines : Option (ℕ × LineEnding) → List ℕ → List ℕ
+in_lines None text = text
+in_lines (Some lines) text = wrapped lines.0 lines.1 text
+
+-- the longest front whose length is a multiple of three
+abbrev pub whole_groups : List ℕ → List ℕ
+whole_groups bytes = take (3 * (length bytes / 3)) bytes
+
+-- the length of n characters in an encoder's lines
+abbrev pub in_lines_len : Option (ℕ × LineEnding) → ℕ → ℕ
+in_lines_len None n = n
+in_lines_len (Some lines) n = wrapped_len lines.0 lines.1 n
