@@ -15,6 +15,3 @@ mod sequence_of;
 
 pub use elements::decode_all;
 pub use sequence_of::SequenceOf;
-
-#[cfg(test)]
-mod tests;

@@ -30,6 +30,3 @@ pub use document::Document;
 pub use octet_string::{OctetString, OctetStringRef};
 pub use secret_document::SecretDocument;
 pub use utf8::Utf8Ref;
-
-#[cfg(test)]
-mod tests;

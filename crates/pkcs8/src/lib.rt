@@ -28,6 +28,3 @@ pub use error::{Error, KeyError, Result};
 pub use private_key_info::{PrivateKeyInfo, PrivateKeyInfoOwned, PrivateKeyInfoRef};
 pub use traits::{BitStringLike, DecodePrivateKey, EncodePrivateKey};
 pub use version::Version;
-
-#[cfg(test)]
-mod tests;

@@ -17,12 +17,13 @@ same_text xs = tied_itself nat_list_cmp_total xs
 tied : (xs ys : List ℕ) → is_eq (slice_cmp nat_cmp xs ys) ≡ true → xs ≡ ys
 tied xs ys e = (bytes_eq-Decides xs ys).0 (sym (is_eq-slice_cmp xs ys) ∙ e)
 
-differ : (xs ys : List ℕ) (b : Bool) → bytes_eq xs ys ≡ b → (xs ≡ ys → ⊥) → b ≡ false
-differ xs ys true e other = absurd (other ((bytes_eq-Decides xs ys).0 e))
-differ xs ys false e other = refl
+not_true : (b : Bool) → (b ≡ true → ⊥) → b ≡ false
+not_true true h = absurd (h refl)
+not_true false h = refl
 
+-- two texts that differ are no tie
 apart : (xs ys : List ℕ) → (xs ≡ ys → ⊥) → is_eq (slice_cmp nat_cmp xs ys) ≡ false
-apart xs ys other = is_eq-slice_cmp xs ys ∙ differ xs ys _ refl other
+apart xs ys other = not_true (is_eq (slice_cmp nat_cmp xs ys)) (λ e. other (tied xs ys e))
 
 above : (xs ys : List ℕ) → slice_cmp nat_cmp ys xs ≡ Less → slice_cmp nat_cmp xs ys ≡ Greater
 above xs ys below = nat_list_cmp_total.antisymm xs ys ∙ ap ordering_reverse below

