@@ -1,0 +1,12 @@
+pub mod JwtSvidError
+pub mod Strings
+pub mod Values
+pub mod RawMembers
+pub mod MemberNames
+pub mod Members
+pub mod Parts
+pub mod JwtAlg
+pub mod Header
+pub mod HeaderOf
+pub mod Claims
+pub mod JwtSvid
