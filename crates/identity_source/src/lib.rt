@@ -22,7 +22,7 @@ mod threads;
 mod window;
 
 pub use error::SourceError;
-pub use identity_update::{BundleParts, Entries, Identity, Update, UpdateError};
+pub use identity_update::{BundleParts, Entries, EntryParts, Identity, Update, UpdateError};
 pub use kept_reader::{IdentityReader, KeptReader, Look};
 pub use missing::Missing;
 pub use pane::Pane;
@@ -30,6 +30,3 @@ pub use receipt::Receipt;
 pub use snapshot::Snapshot;
 pub use source::IdentitySource;
 pub use window::{Missed, Window};
-
-#[cfg(test)]
-mod tests;

@@ -57,7 +57,7 @@ domains_from old done (b ∷ bs) has q =
 pub map_has_domains : (bs : List Bundle) → HasTheDomains (bundle_map bs) bs
 map_has_domains bs = domains_from [] [] bs (λ q. refl)
 
-map_push : (bs : List Bundle) (b : Bundle) → bundle_map (bs ++ b ∷ []) ≡ with_bundle (bundle_map bs) (keys_of_bundle b)
+pub map_push : (bs : List Bundle) (b : Bundle) → bundle_map (bs ++ b ∷ []) ≡ with_bundle (bundle_map bs) (keys_of_bundle b)
 map_push bs b =
     ap (λ (xs : List KeysOfDomain). with_bundles [] xs) (map-append keys_of_bundle bs (b ∷ []))
     ∙ fold-append with_bundle [] (map keys_of_bundle bs) (keys_of_bundle b ∷ [])

@@ -1,5 +1,5 @@
 -- From the rules in turn to the verdict.
-use Rattle.std.proofs.Common.{◌≡◌, List, Result, Ok, Err, IfOk, IfErr, sym, ap, subst, ◌∙◌}
+use Rattle.std.proofs.Common.{◌≡◌, ℕ, List, [], ◌∷◌, map, Option, Some, None, Result, Ok, Err, IfOk, IfErr, refl, sym, ap, subst, ◌∙◌}
 use Rattle.spiffe_id.specs.Rules.{map_ok, then_ok}
 use Rattle.spiffe_core.specs.JwtBundleSet.{Bundles}
 use Rattle.update_document.specs.Written.{WrittenUpdate}
@@ -37,3 +37,10 @@ value_is (Err x) expected made is e = tt
 pub refused_as : {X : Type 0} (P Q : UpdateError → Type 0) (r : Result X UpdateError) → IfErr r P → ((e : UpdateError) → P e → Q e) → IfErr r Q
 refused_as P Q (Ok u) h turn = tt
 refused_as P Q (Err e) h turn = turn e h
+
+-- the purpose of entries, however these are seen
+pub purpose_map : {A B : Type 0} (f : A → B) (es : List A) (reason : Option (List ℕ)) → purpose_check (map f es) reason ≡ purpose_check es reason
+purpose_map f [] None = refl
+purpose_map f [] (Some reason) = refl
+purpose_map f (e ∷ es) None = refl
+purpose_map f (e ∷ es) (Some reason) = refl

@@ -12,3 +12,8 @@ pub mod ReadingLaws
 pub mod AssemblyLaws
 pub mod JudgeLaws
 pub mod Seen
+pub mod NamesAgain
+pub mod CanonicalVerdict
+pub mod CanonicalReads
+pub mod PartsLaws
+pub mod WrappingLaws

@@ -16,12 +16,13 @@ use Rattle.update_document.specs.Spelling.{bundle_content, bundle_der, document_
 use Rattle.update_document.specs.Written.{WrittenBundle, WrittenEntry, WrittenUpdate}
 use Rattle.update_document.proofs.FitsLaws.{encode_le}
 use Rattle.identity_update.specs.Canonical.{canonical, canonical_bundle, canonical_entry, update_der}
-use Rattle.identity_update.specs.Lawful.{HasOneKey, HasOnePurpose, IsLawful}
+use Rattle.identity_update.specs.Lawful.{HasCanonicalDomain, HasCanonicalId, HasOneKey, HasOnePurpose, IsLawful}
 use Rattle.identity_update.specs.Parts.{Bundle, Entry, UpdateParts}
 use Rattle.identity_update.specs.Verdict.{bundle_check, bundles_check, entries_check, entry_check, entry_of, has_bundle, holds_no_other, keys_check, map_refusal, members_check, purpose_check, verdict}
 use Rattle.identity_update.specs.declared.error.UpdateError.{UpdateError}
 use Rattle.identity_update.specs.declared.error.UpdateError.TheVariants.{AlgorithmMismatch, Authorities, Domain, MissingBundle, PublicKeyMismatch, Subject}
 use Rattle.identity_update.proofs.Inverses.{if_inverse, map_inverse, refusal_inverse, then_inverse}
+use Rattle.identity_update.proofs.NamesAgain.{domain_again, id_again}
 use Rattle.identity_update.proofs.NamesFit.{domain_fits, id_fits}
 
 -- each rule holds
@@ -62,7 +63,7 @@ pub record BundleHolds (b : WrittenBundle) (v : Bundle) : Type 0 where
   jwks : v.jwks ≡ b.jwks
   keys : IsOk (key_set_of v.jwks)
 
-read_is_ok : (bytes : List ℕ) (keys : KeySet) → key_set_of bytes ≡ Ok keys → IsOk (key_set_of bytes)
+pub read_is_ok : (bytes : List ℕ) (keys : KeySet) → key_set_of bytes ≡ Ok keys → IsOk (key_set_of bytes)
 read_is_ok bytes keys e = rw e refl
 
 bundle_holds : (n : ℕ) (b : WrittenBundle) (v : Bundle) → bundle_check n b ≡ Ok v → BundleHolds b v
@@ -167,10 +168,10 @@ held_same : (held : Option PlainBits) (key : PlainBits) → holds_no_other held 
 held_same None key e = tt
 held_same (Some k) key e = (bits_decide k key).0 e
 
-one_key : (e : WrittenEntry) (v : Entry) → EntryHolds e v → HasOneKey v
-one_key e v h =
-    let algorithm = if_inverse (same_algorithm v.private_key.algorithm v.public_key.algorithm) _ (AlgorithmMismatch h.n) tt h.keys in
-    let held = if_inverse (holds_no_other v.private_key.public_key v.public_key.key) _ (PublicKeyMismatch h.n) tt algorithm.gives in
+pub keys_are_one : (n : ℕ) (v : Entry) → keys_check n v.private_key v.public_key ≡ Ok tt → HasOneKey v
+keys_are_one n v is =
+    let algorithm = if_inverse (same_algorithm v.private_key.algorithm v.public_key.algorithm) _ (AlgorithmMismatch n) tt is in
+    let held = if_inverse (holds_no_other v.private_key.public_key v.public_key.key) _ (PublicKeyMismatch n) tt algorithm.gives in
     record {
       algorithm = (algorithms_decide v.private_key.algorithm v.public_key.algorithm).0 algorithm.test;
       held = held_same v.private_key.public_key v.public_key.key held.test;
@@ -180,7 +181,7 @@ one_keys : (es : List WrittenEntry) (vs : List Entry) → EntriesHold es vs → 
 one_keys [] [] no_entries = tt
 one_keys [] (v ∷ vs) h = elim h [ ]
 one_keys (e ∷ es) [] h = elim h [ ]
-one_keys (e ∷ es) (v ∷ vs) (an_entry _ _ _ _ h more) = (one_key e v h, one_keys es vs more)
+one_keys (e ∷ es) (v ∷ vs) (an_entry _ _ _ _ h more) = (keys_are_one h.n v h.keys, one_keys es vs more)
 
 are_key_sets : (bs : List WrittenBundle) (vs : List Bundle) → BundlesHold bs vs → AllByRecursion (λ b. IsOk (key_set_of b.jwks)) vs
 are_key_sets [] [] no_bundles = tt
@@ -188,7 +189,19 @@ are_key_sets [] (v ∷ vs) h = elim h [ ]
 are_key_sets (b ∷ bs) [] h = elim h [ ]
 are_key_sets (b ∷ bs) (v ∷ vs) (a_bundle _ _ _ _ h more) = (h.keys, are_key_sets bs vs more)
 
-are_members : (n : ℕ) (bundles : List Bundle) (es : List Entry) → members_check n bundles es ≡ Ok tt → AllByRecursion (λ e. has_bundle e.id.trust_domain bundles ≡ true) es
+are_canonical_ids : (es : List WrittenEntry) (vs : List Entry) → EntriesHold es vs → AllByRecursion HasCanonicalId vs
+are_canonical_ids [] [] no_entries = tt
+are_canonical_ids [] (v ∷ vs) h = elim h [ ]
+are_canonical_ids (e ∷ es) [] h = elim h [ ]
+are_canonical_ids (e ∷ es) (v ∷ vs) (an_entry _ _ _ _ h more) = (id_again e.text v.id h.id, are_canonical_ids es vs more)
+
+are_canonical_domains : (bs : List WrittenBundle) (vs : List Bundle) → BundlesHold bs vs → AllByRecursion HasCanonicalDomain vs
+are_canonical_domains [] [] no_bundles = tt
+are_canonical_domains [] (v ∷ vs) h = elim h [ ]
+are_canonical_domains (b ∷ bs) [] h = elim h [ ]
+are_canonical_domains (b ∷ bs) (v ∷ vs) (a_bundle _ _ _ _ h more) = (domain_again b.text v.trust_domain h.domain, are_canonical_domains bs vs more)
+
+pub are_members : (n : ℕ) (bundles : List Bundle) (es : List Entry) → members_check n bundles es ≡ Ok tt → AllByRecursion (λ e. has_bundle e.id.trust_domain bundles ≡ true) es
 are_members n bundles [] is = tt
 are_members n bundles (e ∷ es) is =
     let first = if_inverse (has_bundle e.id.trust_domain bundles) (members_check (n + 1) bundles es) (MissingBundle n) tt is in
@@ -198,11 +211,14 @@ pub lawful_update : (w : WrittenUpdate) (u : UpdateParts) → verdict w ≡ Ok u
 lawful_update w u is reason =
     let h = rules_hold w u is in
     let entries = entries_hold 0 w.entries u.entries h.entries in
+    let bundles = bundles_hold 0 w.bundles u.bundles h.bundles in
     let purpose = one_purpose w.entries u.entries w.reason entries h.purpose in
     record {
       purpose = subst (HasOnePurpose u.entries) (sym h.reason) purpose;
       reason = subst (λ (r : Option (List ℕ)). IfSome r IsReasonText) (sym h.reason) reason;
+      ids = are_canonical_ids w.entries u.entries entries;
       keys = one_keys w.entries u.entries entries;
-      key_sets = are_key_sets w.bundles u.bundles (bundles_hold 0 w.bundles u.bundles h.bundles);
+      domains = are_canonical_domains w.bundles u.bundles bundles;
+      key_sets = are_key_sets w.bundles u.bundles bundles;
       members = are_members 0 u.bundles u.entries h.members;
     }

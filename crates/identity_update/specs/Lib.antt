@@ -7,8 +7,11 @@ pub mod BundleMap
 pub mod Lawful
 pub mod UpdateError
 pub mod Reading
+pub mod Text
+pub mod PartsVerdict
 pub mod Place
 pub mod Bundle
+pub mod EntryParts
 pub mod Kept
 pub mod Checked
 pub mod Places

@@ -1,11 +1,14 @@
 //! The rules of bundles.
 ghost use Rattle.std.specs.Prelude.{◌≡◌, ◌⊎◌, ◌++◌, ◌∷◌, [], ℕ, List, Ok, map, IfOk, IfErr, OnOk};
+ghost use Rattle.std.specs.List.{AllByRecursion};
 ghost use Rattle.spiffe_core.specs.JwtBundleSet.{with_bundle};
 ghost use Rattle.spiffe_core.specs.KeySet.{key_set_of};
 ghost use Rattle.spiffe_id.specs.TrustDomain.{trust_domain_of};
 ghost use Rattle.update_document.specs.Refs.{written_bundle};
 ghost use Rattle.identity_update.specs.Bundle.{plain_bundle};
 ghost use Rattle.identity_update.specs.BundleMap.{bundle_map, keys_of_bundle};
+ghost use Rattle.identity_update.specs.Lawful.{HasCanonicalDomain};
+ghost use Rattle.identity_update.specs.PartsVerdict.{key_sets_check};
 ghost use Rattle.identity_update.specs.Verdict.{IsRefusal, bundle_check, bundles_check, map_refusal};
 ghost use Rattle.identity_update.specs.declared.error.UpdateError.TheVariants.{Authorities, Domain};
 
@@ -112,4 +115,34 @@ pub(crate) fn check_bundles(
         parts.push(listed)?;
     }
     Ok(CheckedBundles { parts, set })
+}
+
+// The keys of a bundle.
+fn own_key_set(alloc: Global, number: usize, bundle: &BundleParts) -> Result<JwtBundle, UpdateError>
+    ensures ok { IfOk result (λ keys. map_refusal (Authorities number) (key_set_of bundle.now.jwks.items) ≡ Ok keys.authorities) }
+    ensures keys { IfOk result (λ keys. keys ≡ keys_of_bundle (plain_bundle bundle.now)) }
+    ensures domain { HasCanonicalDomain (plain_bundle bundle.now) }
+    ensures err { IfErr result (IsRefusal (map_refusal (Authorities number) (key_set_of bundle.now.jwks.items))) }
+{
+    let _ = bundle.trust_domain.as_str();
+    let domain = copy_of(alloc, &bundle.trust_domain)?;
+    key_set(alloc, number, domain, &bundle.jwks)
+}
+
+/// Tries the rule of each bundle's key set in turn, and answers the set of the bundles. Each key set is read once.
+pub(crate) fn check_key_sets(
+    alloc: Global,
+    bundles: &[BundleParts],
+) -> Result<JwtBundleSet, UpdateError>
+    ensures ok { OnOk result (key_sets_check 0 (map plain_bundle bundles.now) ≡ Ok tt) }
+    ensures domains { OnOk result (AllByRecursion HasCanonicalDomain (map plain_bundle bundles.now)) }
+    ensures set { IfOk result (λ set. set ≡ bundle_map (map plain_bundle bundles.now)) }
+    ensures err { IfErr result (IsRefusal (key_sets_check 0 (map plain_bundle bundles.now))) }
+{
+    let mut set = JwtBundleSet::new(alloc);
+    for (number, bundle) in bundles.iter().enumerate() {
+        let keys = own_key_set(alloc, number, bundle)?;
+        add(&mut set, keys)?;
+    }
+    Ok(set)
 }

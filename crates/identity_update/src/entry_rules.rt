@@ -9,6 +9,7 @@ ghost use Rattle.spki.specs.PlainPublicKey.{plain_public_key_ref};
 ghost use Rattle.pkcs8.specs.PlainPrivateKey.{plain_private_key_ref};
 ghost use Rattle.update_document.specs.Refs.{written_entry};
 ghost use Rattle.identity_update.specs.Checked.{checked_entry};
+ghost use Rattle.identity_update.specs.PartsVerdict.{pairs_check};
 ghost use Rattle.spki.specs.Same.{same_algorithm as same_algorithm_of, same_bits as same_bits_of};
 ghost use Rattle.identity_update.specs.Verdict.{IsRefusal, map_refusal, purpose_check, holds_no_other as holds_no_other_of, keys_check, entry_check, entries_check};
 ghost use Rattle.identity_update.specs.declared.error.UpdateError.TheVariants.{Subject};
@@ -23,11 +24,11 @@ use std::alloc::Global;
 use update_document::EntryRef;
 
 /// An update has either entries or a reason.
-pub(crate) fn check_purpose(
-    entries: &[EntryRef<'_>],
+pub(crate) fn check_purpose<E>(
+    entries: &[E],
     reason: &Option<Utf8Ref<'_>>,
 ) -> Result<(), UpdateError>
-    ensures { result ≡ purpose_check (map written_entry entries.now) (option_map text_ref reason.now) }
+    ensures { result ≡ purpose_check entries.now (option_map text_ref reason.now) }
 {
     match (entries.is_empty(), reason.is_some()) {
         (true, false) => Err(UpdateError::MissingRequiredField),
@@ -119,4 +120,14 @@ pub(crate) fn check_entries<'a>(
         checked.push(first)?;
     }
     Ok(checked)
+}
+
+/// Tries the rules of the keys of each entry in turn.
+pub(crate) fn check_pairs(entries: &[CheckedEntry<'_>]) -> Result<(), UpdateError>
+    ensures { result ≡ pairs_check 0 (map checked_entry entries.now) }
+{
+    for (number, entry) in entries.iter().enumerate() {
+        check_keys(number, &entry.private_key, &entry.public_key)?;
+    }
+    Ok(())
 }

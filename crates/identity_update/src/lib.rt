@@ -6,6 +6,7 @@ mod bundle;
 mod bundle_rules;
 mod entries;
 mod entry;
+mod entry_parts;
 mod entry_rules;
 mod equality;
 mod error;
@@ -13,6 +14,7 @@ mod identity;
 mod kept;
 pub mod laws;
 mod members;
+mod parts_verdict;
 mod place;
 mod places;
 mod text;
@@ -22,9 +24,7 @@ mod verdict;
 
 pub use bundle::BundleParts;
 pub use entries::Entries;
+pub use entry_parts::EntryParts;
 pub use error::UpdateError;
 pub use identity::Identity;
 pub use update::Update;
-
-#[cfg(test)]
-mod tests;

@@ -1,17 +1,26 @@
 //! Updates.
-ghost use Rattle.std.specs.Prelude.{◌≡◌, map, option_map, IfOk, IfErr};
+ghost use Rattle.std.specs.Prelude.{◌≡◌, ◌<◌, ◌^◌, Ok, length, map, option_map, string_bytes, IfOk, IfErr};
+ghost use Rattle.update_document.specs.Written.{ReadsUpdate};
 ghost use Rattle.identity_update.specs.Bundle.{plain_bundle};
 ghost use Rattle.identity_update.specs.BundleMap.{bundle_map};
 ghost use Rattle.identity_update.specs.Lawful.{IsLawful};
+ghost use Rattle.identity_update.specs.Canonical.{canonical, update_der};
+ghost use Rattle.identity_update.specs.EntryParts.{listed};
+ghost use Rattle.identity_update.specs.PartsVerdict.{parts_verdict, withdrawal_verdict};
 ghost use Rattle.identity_update.specs.Reading.{Refuses, Writes};
+ghost use Rattle.identity_update.specs.Text.{IsWriteRefusal, update_text};
+ghost use Rattle.identity_update.specs.Verdict.{IsRefusal, verdict};
 
 use crate::bundle::BundleParts;
 use crate::entries::Entries;
+use crate::entry_parts::{EntryParts, borrow_entries};
 use crate::error::UpdateError;
 use crate::kept::KeptEntry;
+use crate::parts_verdict::{check_reason, judge_parts};
 use crate::place::Place;
-use crate::text::{decode_text, document_in};
+use crate::text::{decode_text, document_in, encode_text};
 use crate::verdict::judge;
+use base64ct::LineEnding;
 use spiffe_core::JwtBundleSet;
 use std::alloc::Global;
 use std::marker::Model;
@@ -47,6 +56,56 @@ impl Update {
         let bytes = decode_text(alloc, text, width)?;
         let document = document_in(alloc, &bytes)?;
         judge(alloc, document)
+    }
+
+    /// The update of these entries and bundles, without a reason.
+    pub fn from_parts(
+        alloc: Global,
+        entries: Vec<EntryParts>,
+        bundles: Vec<BundleParts>,
+    ) -> Result<Update, UpdateError>
+        ensures value { IfOk result (λ u. parts_verdict (listed entries.items bundles.items) ≡ Ok u) }
+        ensures refusal { IfErr result (IsRefusal (parts_verdict (listed entries.items bundles.items))) }
+    {
+        let entries = borrow_entries(alloc, &entries)?;
+        judge_parts(alloc, entries, bundles, None)
+    }
+
+    /// The update that withdraws all identities for this reason, of 1 to 255 bytes, and lists these bundles.
+    pub fn withdrawal(
+        alloc: Global,
+        reason: &str,
+        bundles: Vec<BundleParts>,
+    ) -> Result<Update, UpdateError>
+        ensures value { IfOk result (λ u. withdrawal_verdict reason.now (map plain_bundle bundles.items) ≡ Ok u) }
+        ensures refusal { IfErr result (IsRefusal (withdrawal_verdict reason.now (map plain_bundle bundles.items))) }
+    {
+        let reason = check_reason(reason)?;
+        judge_parts(alloc, Vec::new(alloc), bundles, Some(reason))
+    }
+
+    /// The update's one document in DER, which its text is the Base64 of: canonical ids and trust domains, private keys with attributes and without extensions, and every bundle, replaced ones too.
+    pub fn document(&self) -> &[u8]
+        ensures value { result.now ≡ update_der self.now }
+        ensures fits { length result.now < 2 ^ 32 }
+        ensures reads { ReadsUpdate result.now (canonical self.now) }
+        ensures lawful { verdict (canonical self.now) ≡ Ok self.now }
+    {
+        &self.document
+    }
+
+    /// The update's text: the padded Base64 of its document in lines of `width` characters, the last one shorter or equal, with the ending between two lines and none after the last. Lines have at least 4 characters.
+    pub fn to_text(
+        &self,
+        alloc: Global,
+        width: usize,
+        ending: LineEnding,
+    ) -> Result<String, base64ct::Error>
+        ensures text { IfOk result (λ text. string_bytes text ≡ update_text width ending self.now) }
+        ensures reading { IfOk result (λ text. Writes width (string_bytes text) self.now) }
+        ensures refusal { IfErr result (IsWriteRefusal width) }
+    {
+        encode_text(alloc, self.document(), width, ending)
     }
 
     /// The entries, in the order of the document.

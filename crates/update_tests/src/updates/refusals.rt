@@ -1,5 +1,5 @@
 //! Texts that break a rule. The documents are put together from the grammar by a few lines of Python, and written by its `base64`.
-use crate::{Update, UpdateError};
+use identity_update::{Update, UpdateError};
 use spiffe_core::{JsonError, JwtBundleError};
 use spiffe_id::SpiffeIdError;
 use std::test::Fail;

@@ -1,6 +1,6 @@
 //! What updates lend, and when they are equal. The documents are put together from the grammar by a few lines of Python, and written by its `base64`; keys are RFC 8410's, made by OpenSSL.
-use crate::{Entries, Update};
 use der_core::Decode;
+use identity_update::{Entries, Update};
 use pkcs8::PrivateKeyInfoRef;
 use spki::SubjectPublicKeyInfoRef;
 use std::test::Fail;

@@ -1,13 +1,10 @@
 //! The texts are by a script from the grammar of `docs/FORMATS.md`; the revisions follow from how many texts were applied.
 ghost use Rattle.std.specs.Prelude.{◌≡◌, IfOk};
 
-use crate::error::SourceError;
-use crate::kept_reader::{IdentityReader, Look};
-use crate::receipt::Receipt;
-use crate::snapshot::Snapshot;
-use crate::source::IdentitySource;
-use crate::window::{Missed, Window};
-use crate::{KeptReader, UpdateError};
+use identity_source::{
+    IdentityReader, IdentitySource, KeptReader, Look, Missed, Receipt, Snapshot, SourceError,
+    UpdateError, Window,
+};
 use spiffe_core::BundleSource;
 use spiffe_id::TrustDomain;
 use std::alloc::Global;

@@ -1,3 +1,5 @@
 mod lending;
+mod parts;
 mod reading;
 mod refusals;
+mod writing;

@@ -1,5 +1,5 @@
 //! Texts that write updates. The documents are put together from the grammar by a few lines of Python, and written by its `base64`; keys are RFC 8410's, made by OpenSSL.
-use crate::Update;
+use identity_update::Update;
 use std::test::Fail;
 
 type Row = (

@@ -1,5 +1,5 @@
 use Rattle.std.proofs.Common.{◌≡◌}
-use Rattle.identity_source.proofs.tests.hold.Given as goal
+use Rattle.source_tests.proofs.sources.hold.Given as goal
 
 abbrev pub invariant-loop : goal.invariant-loop
 invariant-loop g l = l.source.name ≡ l.fn.source.name

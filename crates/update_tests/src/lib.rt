@@ -1,0 +1,5 @@
+//! Tests of `identity_update`, over its public items alone.
+#![tactic(auto)]
+
+#[cfg(test)]
+mod updates;
