@@ -6,7 +6,7 @@ use Rattle.std.proofs.lemmas.Grind.{common_steps}
 use Rattle.identity_io.specs.Whole.{AppendsPrefix}
 use Rattle.identity_commands.specs.Outcome.{Answered, Answers, PartlyAnswered, Shows, Streams}
 use Rattle.identity_commands.specs.declared.status.Status.{Status}
-use Rattle.identity_commands.specs.declared.status.Status.TheVariants.{Done, Refused, Usage, SourceFailed, SinkFailed, OutOfMemory, TooLong}
+use Rattle.identity_commands.specs.declared.status.Status.TheVariants.{Done, Refused, Usage, SourceFailed, SinkFailed, OutOfMemory, TooLong, BadScript}
 
 abbrev streams : Option (List ℕ) → ℕ → Option (List ℕ) → ℕ → Streams
 streams left read_faults written write_faults = record { left = left; read_faults = read_faults; written = written; write_faults = write_faults }
@@ -34,6 +34,7 @@ one_of_both width text printed SourceFailed answers = absurd answers
 one_of_both width text printed SinkFailed answers = absurd answers
 one_of_both width text printed OutOfMemory answers = absurd answers
 one_of_both width text printed TooLong answers = absurd answers
+one_of_both width text printed BadScript answers = absurd answers
 
 -- the answer to a text that was read, where a first part of it was written
 pub partly_answered : (width a b c d : ℕ) (text printed : List ℕ) (status : Status) → Answers width text printed status
@@ -59,3 +60,4 @@ shows_answer width a b c d text printed SourceFailed answers left left' written 
 shows_answer width a b c d text printed SinkFailed answers left left' written written' read wrote = absurd answers
 shows_answer width a b c d text printed OutOfMemory answers left left' written written' read wrote = absurd answers
 shows_answer width a b c d text printed TooLong answers left left' written written' read wrote = absurd answers
+shows_answer width a b c d text printed BadScript answers left left' written written' read wrote = absurd answers

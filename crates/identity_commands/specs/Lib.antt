@@ -1,5 +1,4 @@
 pub mod Status
-pub mod Words
 pub mod Printed
 pub mod Report
 pub mod Refusal

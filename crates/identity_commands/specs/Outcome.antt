@@ -10,7 +10,7 @@ use Rattle.identity_update.specs.declared.error.UpdateError.TheVariants as updat
 use Rattle.identity_commands.specs.Refusal.{refusal_line}
 use Rattle.identity_commands.specs.Report.{report_of}
 use Rattle.identity_commands.specs.declared.status.Status.{Status}
-use Rattle.identity_commands.specs.declared.status.Status.TheVariants.{Done, Refused, Usage, SourceFailed, SinkFailed, OutOfMemory, TooLong}
+use Rattle.identity_commands.specs.declared.status.Status.TheVariants.{Done, Refused, Usage, SourceFailed, SinkFailed, OutOfMemory, TooLong, BadScript}
 
 -- a source and a sink: what is left to read, what was written, and how many faults came of each
 pub record Streams : Type 0 where
@@ -44,6 +44,7 @@ Shows width before now SourceFailed = Rose before.read_faults now.read_faults
 Shows width before now SinkFailed = Rose before.write_faults now.write_faults × PartlyAnswered width before now
 Shows width before now OutOfMemory = Unit {0}
 Shows width before now TooLong = Unit {0}
+Shows width before now BadScript = ⊥
 
 -- the size of the input by the status: an answer is of one within the limit, and only a longer one is too long
 abbrev pub HasSize : ℕ → Option (List ℕ) → Status → Type 0

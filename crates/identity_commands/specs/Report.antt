@@ -22,10 +22,13 @@ identity_line e = codes "identity " ++ (id_text e.id ++ (codes " " ++ (oid_text 
 abbrev pub key_id_word : Authority → List ℕ
 key_id_word a = 32 ∷ printed a.key_id
 
--- the line of a trust domain: how many keys it has, and their key IDs in ascending order
+-- a trust domain, how many keys it has, and their key IDs in ascending order
+abbrev pub bundle_words : List ℕ → Keys → List ℕ
+bundle_words name keys = name ++ (codes " " ++ (decimal (length keys.authorities) ++ (flat_map key_id_word (values_of keys.authorities) ++ codes "\n")))
+
+-- the line of a trust domain
 abbrev pub bundle_line : List ℕ × Keys → List ℕ
-bundle_line b = codes "bundle " ++ (b.0 ++ (codes " " ++ (decimal (length b.1.authorities)
-    ++ (flat_map key_id_word (values_of b.1.authorities) ++ codes "\n"))))
+bundle_line b = codes "bundle " ++ bundle_words b.0 b.1
 
 -- the line of a reason, where there is one
 abbrev pub withdrawn_line : Option (List ℕ) → List ℕ

@@ -2,23 +2,18 @@
 #![tactic(auto)]
 
 mod answers;
-mod commands;
 mod printed;
-mod program;
 mod refusal;
 mod report_lines;
 mod showing;
 mod status;
-mod words;
 
 pub use answers::report;
-pub use commands::run;
-pub use program::run_program;
+pub use printed::push_printed;
 pub use refusal::refusal_text;
-pub use report_lines::report_text;
-pub use showing::show;
+pub use report_lines::{push_bundle_words, report_text};
+pub use showing::{chosen, show};
 pub use status::Status;
-pub use words::{Command, read_words};
 
 #[cfg(test)]
 mod tests;

@@ -23,7 +23,7 @@ fn push_byte(out: &mut Vec<u8>, byte: u8) -> Result<(), AllocError>
 }
 
 /// Appends a text of which no byte is known: visible ASCII characters but `%` as they are, every other byte as `%` and two hexadecimal digits.
-pub(crate) fn push_printed(out: &mut Vec<u8>, text: &[u8]) -> Result<(), AllocError>
+pub fn push_printed(out: &mut Vec<u8>, text: &[u8]) -> Result<(), AllocError>
     ensures { OnOk result (out.new.items ≡ out.old.items ++ printed text.now) }
 {
     for byte in text {

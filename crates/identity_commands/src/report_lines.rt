@@ -6,7 +6,7 @@ ghost use Rattle.der_core.specs.Oid.{oid_text};
 ghost use Rattle.spiffe_id.specs.SpiffeId.{id_text};
 ghost use Rattle.spki.specs.Fingerprint.{fingerprint_of};
 ghost use Rattle.spki.specs.PlainPublicKey.{plain_public_key_ref, public_key_der};
-ghost use Rattle.identity_commands.specs.Report.{bundle_line, identity_line, key_id_word, report_lines, withdrawn_line};
+ghost use Rattle.identity_commands.specs.Report.{bundle_line, bundle_words, identity_line, key_id_word, report_lines, withdrawn_line};
 
 use crate::printed::push_printed;
 use identity_source::{Entries, Identity};
@@ -58,15 +58,16 @@ fn push_key_ids(out: &mut Vec<u8>, bundle: &JwtBundle) -> Result<(), AllocError>
     Ok(())
 }
 
-fn push_bundle(
+/// Appends what a line says of a trust domain: its name, how many keys it has, and their key IDs.
+pub fn push_bundle_words(
     out: &mut Vec<u8>,
     alloc: Global,
     name: &str,
     bundle: &JwtBundle,
 ) -> Result<(), AllocError>
-    ensures { OnOk result (out.new.items ≡ out.old.items ++ bundle_line (name.now, bundle.now)) }
+    ensures { OnOk result (out.new.items ≡ out.old.items ++ bundle_words name.now bundle.now) }
 {
-    let head = format!(in alloc; "bundle {name} {}", bundle.authority_count())?;
+    let head = format!(in alloc; "{name} {}", bundle.authority_count())?;
     out.extend_from_slice(head.as_bytes())?;
     push_key_ids(out, bundle)?;
     out.extend_from_slice(b"\n")
@@ -76,7 +77,8 @@ fn push_bundles(out: &mut Vec<u8>, alloc: Global, bundles: &JwtBundleSet) -> Res
     ensures { OnOk result (out.new.items ≡ out.old.items ++ flat_map bundle_line bundles.now) }
 {
     for (name, bundle) in bundles.iter() {
-        push_bundle(out, alloc, name.as_str(), bundle)?;
+        out.extend_from_slice(b"bundle ")?;
+        push_bundle_words(out, alloc, name.as_str(), bundle)?;
     }
     Ok(())
 }

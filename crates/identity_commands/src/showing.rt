@@ -27,8 +27,8 @@ fn state_text(alloc: Global, state: &Snapshot) -> Result<Vec<u8>, AllocError>
     )
 }
 
-// The state of this revision: the one that the reader gave, or else the source's last.
-fn chosen<'a>(seen: &'a Snapshot, latest: &'a Snapshot, revision: u64) -> &'a Snapshot
+/// The state of this revision: the one that the reader gave, or else the source's last.
+pub fn chosen<'a>(seen: &'a Snapshot, latest: &'a Snapshot, revision: u64) -> &'a Snapshot
     ensures { ((seen.now.revision ≡ revision) × (result.now ≡ seen.now)) ⊎ (result.now ≡ latest.now) }
 {
     if seen.revision() == revision {

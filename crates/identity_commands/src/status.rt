@@ -4,6 +4,8 @@ ghost use Rattle.identity_commands.specs.Status.{status_number};
 
 use identity_io::ReadError;
 
+const USAGE: &str = "usage: identity_tool show WIDTH < UPDATE or serve WIDTH < SCRIPT";
+
 /// How a command ended.
 #[derive(Clone, Copy, Debug, PartialEq, Eq)]
 pub enum Status {
@@ -25,8 +27,11 @@ pub enum Status {
     /// No memory was left.
     OutOfMemory,
 
-    /// The input is longer than the command takes.
+    /// The input is longer than the command takes, or asks for more than it does.
     TooLong,
+
+    /// The input is no script, or stops before its end.
+    BadScript,
 }
 
 impl Status {
@@ -42,6 +47,7 @@ impl Status {
             Status::SinkFailed => 4,
             Status::OutOfMemory => 5,
             Status::TooLong => 6,
+            Status::BadScript => 7,
         }
     }
 
@@ -51,11 +57,18 @@ impl Status {
     {
         match self {
             Status::Done | Status::Refused => None,
-            Status::Usage => Some("usage: identity_tool show WIDTH < UPDATE"),
+            Status::Usage => Some(USAGE),
             Status::SourceFailed => Some("the input could not be read"),
             Status::SinkFailed => Some("the output could not be written"),
             Status::OutOfMemory => Some("no memory was left"),
-            Status::TooLong => Some("the input has more than 16777216 bytes"),
+            Status::TooLong => {
+                Some(
+                    "the input has an update of more than 16777216 bytes, or more than 10000 requests",
+                )
+            }
+            Status::BadScript => {
+                Some("the script has a line that is no request, or ends before its end")
+            }
         }
     }
 }

@@ -1,0 +1,36 @@
+//! The top call.
+ghost use Rattle.std.specs.Prelude.{◌≡◌, ◌≢◌, ◌≤◌, ◌↔◌, ℕ};
+ghost use Rattle.identity_commands.specs.declared.status.Status.{Status};
+ghost use Rattle.identity_program.specs.Runs.{Ran};
+ghost use Rattle.identity_program.specs.Words.{IsCommand, IsUsage, texts};
+ghost use Rattle.identity_program.specs.declared.words.Command.{Command};
+
+use crate::words::{Command, read_words};
+use identity_commands::{Status, show};
+use identity_io::{LIMIT, Sink, Source};
+use identity_script::session;
+use std::alloc::Global;
+use std::sync::Wait;
+
+/// Does what the words after the program's name say, and answers how it ended. A command may wait for threads of its own.
+pub fn run<R: Wait, S: Source, K: Sink>(
+    rt: &R,
+    alloc: Global,
+    words: &[String],
+    input: &mut S,
+    out: &mut K,
+) -> Status
+    ensures usage { result ≡ Status.Usage ↔ IsUsage (texts words.now) }
+    ensures not_begun { result ≡ Status.Usage → (input.new ≡ input.old) × (out.new ≡ out.old) }
+    ensures ran { result ≢ Status.Usage → (command : Command) × IsCommand (texts words.now) command × Ran LIMIT command
+        (record { left = S.left input.old; read_faults = S.faults input.old; written = K.written out.old; write_faults = K.faults out.old })
+        (record { left = S.left input.new; read_faults = S.faults input.new; written = K.written out.new; write_faults = K.faults out.new })
+        result (out.new ≡ out.old) }
+    ensures later { (S.faults input.old ≤ S.faults input.new) × (K.faults out.old ≤ K.faults out.new) }
+{
+    match read_words(words) {
+        Some(Command::Show(width)) => show(rt, alloc, width as usize, input, out),
+        Some(Command::Serve(width)) => session(rt, alloc, width as usize, input, out),
+        None => Status::Usage,
+    }
+}

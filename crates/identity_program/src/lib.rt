@@ -1,0 +1,14 @@
+//! The program `identity_tool` as a library: its words, the command that they name over any source and any sink, and its edge over the standard streams.
+#![tactic(auto)]
+
+mod commands;
+pub mod laws;
+mod program;
+mod words;
+
+pub use commands::run;
+pub use program::run_program;
+pub use words::{Command, read_words, unread};
+
+#[cfg(test)]
+mod tests;

@@ -1,0 +1,4 @@
+pub mod Pending
+pub mod Readings
+pub mod Attending
+pub mod Sessions

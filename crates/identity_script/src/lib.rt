@@ -1,0 +1,22 @@
+//! Scripts of requests to an identity source: a script is read request by request, and each request is answered before the next one is read.
+#![tactic(auto)]
+
+mod ahead;
+mod answering;
+pub mod laws;
+mod line;
+mod number;
+mod reading;
+mod reply;
+mod request;
+mod serving;
+
+pub use ahead::{Ahead, Stop};
+pub use line::{Form, Line, MOST_LINE, read_line};
+pub use number::read_number;
+pub use reading::{MOST_REQUESTS, next_request};
+pub use request::{Ending, Next, Request};
+pub use serving::session;
+
+#[cfg(test)]
+mod tests;
