@@ -1,4 +1,4 @@
-//! SPIFFE identifiers, JWT authorities and trust bundles as they pass between workloads: parsed once,
+//! SPIFFE identifiers, tokens, JWT authorities and trust bundles as they pass between workloads: parsed once,
 //! kept in canonical form, and shared between threads. It ports a part of the crate `spiffe`, and is offered under the licence Apache-2.0.
 //!
 //! ```text
@@ -21,6 +21,9 @@ mod jwt_bundle;
 mod jwt_bundle_set;
 mod threads;
 
+pub use broker_header::{
+    CallError, InterceptorFn, Metadata, MetadataError, SecurityHeader, Status,
+};
 pub use bundle_source::BundleSource;
 pub use bundles::Bundles;
 pub use error::JwtBundleError;
@@ -34,3 +37,4 @@ pub use spiffe_id::{
     uri_has_spiffe_scheme,
 };
 pub use spiffe_json::JsonError;
+pub use spiffe_token::{Claims, JwtAlg, JwtSvid, JwtSvidError, Member, top_members};
