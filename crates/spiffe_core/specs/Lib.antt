@@ -1,6 +1,21 @@
+-- What the contracts of this crate cite.
 pub mod Entries
 pub mod JwtBundleError
 pub mod JwtAuthority
 pub mod KeySet
 pub mod JwtBundle
 pub mod JwtBundleSet
+pub use Rattle.spiffe_id.specs.Path
+pub use Rattle.spiffe_id.specs.Rules
+pub use Rattle.spiffe_id.specs.Scheme
+pub use Rattle.spiffe_id.specs.SpiffeId
+pub use Rattle.spiffe_id.specs.SpiffeIdError
+pub use Rattle.spiffe_id.specs.TrustDomain
+pub use Rattle.spiffe_json.specs.Json
+pub use Rattle.spiffe_token.specs.Claims
+pub use Rattle.spiffe_token.specs.JwtAlg
+pub use Rattle.spiffe_token.specs.JwtSvid
+pub use Rattle.spiffe_token.specs.JwtSvidError
+pub use Rattle.spiffe_token.specs.Members
+pub use Rattle.broker_header.specs.Metadata
+pub use Rattle.broker_header.specs.SecurityHeader

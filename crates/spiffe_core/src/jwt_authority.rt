@@ -10,7 +10,7 @@ ghost use Rattle.spiffe_core.specs.JwtAuthority.{IsJwk, key_id_of, authority_of,
 
 use crate::error::JwtBundleError;
 use serde_json::Value;
-use spiffe_json::read_json;
+use spiffe_json::{read_json, write_json};
 use std::alloc::Global;
 use std::marker::Model;
 
@@ -55,7 +55,7 @@ impl JwtAuthority {
             return Err(JwtBundleError::MissingKeyId);
         };
         let kid = String::from_str(alloc, key_id)?;
-        let jwk_json = value.to_vec(alloc)?;
+        let jwk_json = write_json(alloc, value)?;
         Ok(JwtAuthority { kid, jwk_json })
     }
 

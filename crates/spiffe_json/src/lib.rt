@@ -11,4 +11,4 @@ mod error;
 mod read;
 
 pub use error::{JsonError, ReadError};
-pub use read::read_json;
+pub use read::{read_json, write_json};

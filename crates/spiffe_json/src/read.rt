@@ -1,14 +1,14 @@
-//! Reading JSON in which each number is whole.
+//! Reading and writing JSON in which each number is whole.
 ghost use Rattle.std.specs.Prelude.{◌≡◌, ◌≤◌, ◌⊎◌, Ok, Some, None, false, IfOk, IfErr};
 ghost use Rattle.serde_json.specs.Data.{depth};
 ghost use Rattle.serde_json.specs.Read.{max_depth};
 ghost use Rattle.serde_json.specs.View.{view, items_view, members_view};
-ghost use Rattle.serde_json.specs.Written.{has_float, items_have_float, members_have_float};
+ghost use Rattle.serde_json.specs.Written.{has_float, items_have_float, members_have_float, compact_text};
 ghost use Rattle.spiffe_json.specs.Json.{json_of, whole_json, IsReadRefusal};
 
 use crate::error::{JsonError, ReadError};
 use serde_json::{Map, Value};
-use std::alloc::Global;
+use std::alloc::{AllocError, Global};
 
 /// Reads one JSON value and refuses numbers that aren't whole, wherever they stand in it.
 ///
@@ -25,6 +25,16 @@ pub fn read_json(alloc: Global, bytes: &[u8]) -> Result<Value, ReadError>
         return Err(ReadError::Json(JsonError::Number));
     }
     Ok(value)
+}
+
+/// Writes a value without blanks, the names of each object in ascending order.
+pub fn write_json(alloc: Global, value: &Value) -> Result<Vec<u8>, AllocError>
+    requires whole { has_float (view value.now) ≡ false }
+    ensures text { IfOk result (λ bytes. bytes.items ≡ compact_text (view value.now)) }
+    ensures reads { IfOk result (λ bytes. depth (view value.now) ≤ max_depth → whole_json bytes.items ≡ Ok (view value.now)) }
+{
+    let bytes = value.to_vec(alloc)?;
+    Ok(bytes)
 }
 
 fn parse(alloc: Global, bytes: &[u8]) -> Result<Value, ReadError>
