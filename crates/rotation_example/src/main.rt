@@ -49,7 +49,10 @@ fn main(rt: HostRuntime) -> Result<()> {
         latest.revision()
     )?;
     if let Some(identity) = latest.svid() {
-        println!(rt; "its identity is {}", identity.id())?;
+        let key = identity.public_key();
+        if let Ok(fingerprint) = key.fingerprint_base64(rt.alloc()) {
+            println!(rt; "{} holds the key {fingerprint}", identity.id())?;
+        }
     }
     for (i, forward) in watched?.iter().enumerate() {
         println!(rt; "reader {i} only went forward: {forward}")?;

@@ -1,18 +1,18 @@
 -- Tokens of the Workload API (JWT-SVID, sections 2 to 4): what a text stands for, or the first rule that it breaks.
-use Rattle.std.specs.Prelude.{◌≡◌, ℕ, nat_eq, ◌⊎◌, List, ◌++◌, Bool, true, Result, Ok, Err, Option, None, codes, if◌then◌else◌}
+use Rattle.std.specs.Prelude.{◌≡◌, ℕ, ℤ, nat_eq, ◌⊎◌, List, ◌++◌, Bool, true, Result, Ok, Err, Option, None, codes, if◌then◌else◌}
 use Rattle.std.specs.Ordering.{on, eq_of_both}
 use Rattle.std.specs.Option.{option_eq, MatchOption}
 use Rattle.std.specs.Cmp.{IsEquivalence, and_equiv, on_equiv}
 use Rattle.std.specs.Cmp.Lexicographic.{pointwise, nat_list_eq_equiv, options_equiv}
-use Rattle.std.specs.Fmt.{decimal}
+use Rattle.std.specs.Fmt.{decimal, signed_decimal}
 use Rattle.spiffe_id.specs.Rules.{then_ok}
-use Rattle.spiffe_id.specs.SpiffeId.{Id, id_of, id_eq}
+use Rattle.spiffe_id.specs.SpiffeId.{Id, id_of, id_eq, id_text}
 use Rattle.spiffe_id.specs.declared.error.SpiffeIdError.{SpiffeIdError}
 use Rattle.spiffe_token.specs.declared.error.JwtSvidError.{JwtSvidError}
 use Rattle.spiffe_token.specs.declared.error.JwtSvidError.TheVariants.{InvalidExpiration, InvalidJwtFormat, InvalidBase64}
 use Rattle.spiffe_token.specs.declared.jwt_alg.JwtAlg.{JwtAlg}
 use Rattle.spiffe_token.specs.JwtSvidError.{subject_error}
-use Rattle.spiffe_token.specs.JwtAlg.{alg_eq, alg_equiv}
+use Rattle.spiffe_token.specs.JwtAlg.{alg_name, alg_eq, alg_equiv}
 use Rattle.spiffe_token.specs.Header.{Header, header_of, key_of}
 use Rattle.spiffe_token.specs.Claims.{ClaimsSet, claims_of, is_expiry, claims_eq, claims_equiv}
 use Rattle.spiffe_token.specs.Parts.{parts_of, IsPart, IsNoPart}
@@ -69,6 +69,8 @@ svid_equiv =
     and_equiv (on_equiv (λ s. s.token) nat_list_eq_equiv) (and_equiv (on_equiv (λ s. s.spiffe_id) id_equiv) (and_equiv (on_equiv (λ s. s.claims) claims_equiv)
     (and_equiv (on_equiv (λ s. s.key_id) nat_list_eq_equiv) (and_equiv (on_equiv (λ s. s.alg) alg_equiv) (on_equiv (λ s. s.hint) (options_equiv nat_list_eq_equiv))))))
 
--- what is shown of a token's text: its length
-abbrev pub token_debug : ℕ → List ℕ
-token_debug len = codes "Token { len: " ++ (decimal len ++ codes " }")
+-- what `Debug` shows of a token: its subject, its algorithm, its expiry, how many audiences it has, and of its text the length
+abbrev pub svid_debug : Id → JwtAlg → ℤ → ℕ → ℕ → List ℕ
+svid_debug id alg expiry audiences len = codes "JwtSvid { spiffe_id: " ++ (id_text id ++ (codes ", alg: " ++ (alg_name alg
+    ++ (codes ", expiry: " ++ (signed_decimal expiry ++ (codes ", audiences: " ++ (decimal audiences
+    ++ (codes ", token: Token { len: " ++ (decimal len ++ codes " } }")))))))))

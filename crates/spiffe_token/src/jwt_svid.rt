@@ -28,18 +28,12 @@ const MAX_EXPIRY: i64 = 253_402_300_799;
 /// Its signature was not looked at, nor the time: whoever trusts it must know where it came from, or verify it.
 #[derive(Drop)]
 pub struct JwtSvid {
-    token: Token,
+    token: String,
     spiffe_id: SpiffeId,
     claims: Claims,
     key_id: String,
     alg: JwtAlg,
     hint: Option<String>,
-}
-
-/// A token's text, which lets its bearer pass for the subject.
-#[derive(Drop)]
-struct Token {
-    text: String,
 }
 
 impl Model for JwtSvid {
@@ -48,7 +42,7 @@ impl Model for JwtSvid {
 
     ghost Value = { Svid };
 
-    ghost view = { λ s. record { token = string_bytes s.token.text; spiffe_id = s.spiffe_id; claims = s.claims; key_id = string_bytes s.key_id; alg = s.alg; hint = option_map string_bytes s.hint } };
+    ghost view = { λ s. record { token = string_bytes s.token; spiffe_id = s.spiffe_id; claims = s.claims; key_id = string_bytes s.key_id; alg = s.alg; hint = option_map string_bytes s.hint } };
 
     ghost invariant = { λ s. IsSvid s.claims s.spiffe_id };
 }
@@ -107,9 +101,7 @@ impl JwtSvid {
         if claims.exp() < MIN_EXPIRY || claims.exp() > MAX_EXPIRY {
             return Err(JwtSvidError::InvalidExpiration);
         }
-        let token = Token {
-            text: String::from_str(alloc, token)?,
-        };
+        let token = String::from_str(alloc, token)?;
         let key_id = String::from_str(alloc, key_id)?;
         Ok(JwtSvid {
             token,
@@ -134,7 +126,7 @@ impl JwtSvid {
     pub fn token(&self) -> &str
         ensures { result.now ≡ self.now.token }
     {
-        self.token.text.as_str()
+        self.token.as_str()
     }
 
     pub fn spiffe_id(&self) -> &SpiffeId
@@ -194,9 +186,7 @@ impl JwtSvid {
         ensures ok { IfOk result (λ s. s ≡ self.now) }
         ensures err { IfErr result (λ e. e ≡ JwtSvidError.OutOfMemory) }
     {
-        let token = Token {
-            text: String::from_str(alloc, self.token.text.as_str())?,
-        };
+        let token = String::from_str(alloc, self.token.as_str())?;
         let spiffe_id = copy_id(alloc, &self.spiffe_id)?;
         let claims = self.claims.try_clone(alloc)?;
         let key_id = String::from_str(alloc, self.key_id.as_str())?;
@@ -241,7 +231,7 @@ impl PartialEq for JwtSvid {
     ghost laws = { partial_equiv_from_equiv svid_equiv };
 
     fn eq(&self, other: &Self) -> bool {
-        self.token.text == other.token.text
+        self.token == other.token
             && self.spiffe_id == other.spiffe_id
             && self.claims == other.claims
             && self.key_id == other.key_id
@@ -254,27 +244,21 @@ impl Eq for JwtSvid {
     ghost laws = { svid_equiv };
 }
 
-impl fmt::Debug for Token {
-    ghost use Rattle.std.specs.Prelude.{Some, length, string_bytes};
-    ghost use Rattle.spiffe_token.specs.JwtSvid.{token_debug};
-
-    ghost debug_output = { λ t. Some (token_debug (length (string_bytes t.text))) };
-
-    fn fmt<W: fmt::Write>(&self, f: &mut fmt::Formatter<W>) -> fmt::Result {
-        let len = self.text.len();
-        write!(f, "Token {{ len: {len} }}")
-    }
-}
-
+/// Of the token's text it shows the length alone.
 impl fmt::Debug for JwtSvid {
+    ghost use Rattle.std.specs.Prelude.{Some, length};
+    ghost use Rattle.spiffe_token.specs.JwtSvid.{svid_debug};
+
+    ghost debug_output = { λ s. Some (svid_debug s.spiffe_id s.alg s.claims.exp (length s.claims.aud) (length s.token)) };
+
     fn fmt<W: fmt::Write>(&self, f: &mut fmt::Formatter<W>) -> fmt::Result {
-        f.debug_struct("JwtSvid")
-            .field("spiffe_id", &self.spiffe_id)
-            .field("hint", &self.hint)
-            .field("claims", &self.claims)
-            .field("key_id", &self.key_id)
-            .field("token", &self.token)
-            .field("alg", &self.alg)
-            .finish()
+        let alg = self.alg.name();
+        let audiences = self.claims.aud().len();
+        let len = self.token.len();
+        write!(f,
+            "JwtSvid {{ spiffe_id: {}, alg: {alg}, expiry: {}, audiences: {audiences}, token: Token {{ len: {len} }} }}",
+            self.spiffe_id,
+            self.claims.exp()
+        )
     }
 }
