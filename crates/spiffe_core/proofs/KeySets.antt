@@ -1,5 +1,5 @@
 -- What holds of a value holds of the keys in it.
-use Rattle.std.proofs.Common.{◌⊎◌, inl, inr, ◌≡◌, ◌≤◌, ℕ, Bool, false, ◌||◌, List, Option, Some, None, Ok, option_and_then, codes, Ordering, Less, Equal, Greater, ap, arith}
+use Rattle.std.proofs.Common.{◌⊎◌, inl, inr, ◌≡◌, ◌≤◌, ℕ, ◌+◌, Bool, false, ◌||◌, List, Option, Some, None, Ok, option_and_then, codes, Ordering, Less, Equal, Greater, ap, arith}
 use Rattle.std.specs.Ordering.{match_ordering, nat_cmp}
 use Rattle.std.specs.Cmp.Lexicographic.{slice_cmp}
 use Rattle.serde_json.specs.Data.{Data, array, object, Items, Members, no_members, member, depth, items_depth, members_depth}
@@ -39,7 +39,8 @@ array_whole : (k : List ℕ) (d : Data) (items : Items) → option_and_then as_a
 array_whole k (object ms) items e whole = member_whole k ms (array items) (some_array (get_member k ms) items e) whole
 array_whole k _ items e whole = cc
 
-array_nests : (k : List ℕ) (d : Data) (items : Items) → option_and_then as_array (get k d) ≡ Some items → items_depth items ≤ depth d
+-- an array in an object nests two levels less
+pub array_nests : (k : List ℕ) (d : Data) (items : Items) → option_and_then as_array (get k d) ≡ Some items → items_depth items + 2 ≤ depth d
 array_nests k (object ms) items e = omega (arith, member_nests k ms (array items) (some_array (get_member k ms) items e))
 array_nests k _ items e = cc
 
@@ -51,4 +52,4 @@ pub keys_whole : (d : Data) (items : Items) → keys_of d ≡ Ok items → has_f
 keys_whole d items e whole = array_whole (codes "keys") d items (is_array (option_and_then as_array (get (codes "keys") d)) items e) whole
 
 pub keys_nest : (d : Data) (items : Items) → keys_of d ≡ Ok items → items_depth items ≤ depth d
-keys_nest d items e = array_nests (codes "keys") d items (is_array (option_and_then as_array (get (codes "keys") d)) items e)
+keys_nest d items e = omega (arith, array_nests (codes "keys") d items (is_array (option_and_then as_array (get (codes "keys") d)) items e))

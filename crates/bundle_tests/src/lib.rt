@@ -1,0 +1,8 @@
+//! Tests of `bundle_document` and `bundle_selection` over their public items.
+#![tactic(auto)]
+
+#[cfg(test)]
+mod documents;
+
+#[cfg(test)]
+mod selection;
