@@ -58,6 +58,7 @@ impl JwtBundle {
         }
     }
 
+    /// Whose authorities these are.
     pub fn trust_domain(&self) -> &TrustDomain
         ensures { result.now ≡ self.now.trust_domain }
     {

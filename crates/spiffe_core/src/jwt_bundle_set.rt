@@ -100,6 +100,7 @@ impl JwtBundleSet {
         self.bundles.len()
     }
 
+    /// Whether no trust domain has a bundle.
     pub fn is_empty(&self) -> bool
         ensures { IsTrue result ↔ (self.now ≡ []) }
     {

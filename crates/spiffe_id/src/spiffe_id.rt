@@ -80,6 +80,7 @@ impl SpiffeId {
         Ok(SpiffeId { trust_domain, path })
     }
 
+    /// The trust domain that the workload belongs to.
     pub fn trust_domain(&self) -> &TrustDomain
         ensures { result.now ≡ self.now.trust_domain }
     {
@@ -102,6 +103,7 @@ impl SpiffeId {
         self.path.as_str()
     }
 
+    /// Whether the workload belongs to this trust domain.
     pub fn is_member_of(&self, trust_domain: &TrustDomain) -> bool
         ensures { IsTrue result ↔ (self.now.trust_domain ≡ trust_domain.now) }
     {

@@ -129,6 +129,7 @@ impl JwtSvid {
         self.token.as_str()
     }
 
+    /// The subject: the workload that the token is about.
     pub fn spiffe_id(&self) -> &SpiffeId
         ensures id { result.now ≡ self.now.spiffe_id }
         ensures subject { id_of self.now.claims.sub ≡ Ok result.now }
@@ -165,6 +166,7 @@ impl JwtSvid {
         self.alg
     }
 
+    /// What the token claims, as it was read.
     pub fn claims(&self) -> &Claims
         ensures { result.now ≡ self.now.claims }
     {
