@@ -3,3 +3,7 @@ pub mod GroupsLemmas
 pub mod TableLemmas
 pub mod BlocksLemmas
 pub mod EncodeLemmas
+pub mod AddedLemmas
+pub mod LanesLemmas
+pub mod GroupedLemmas
+pub mod PartsLemmas

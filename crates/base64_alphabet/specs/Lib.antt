@@ -2,5 +2,6 @@ pub mod Table
 pub mod Passes
 pub mod Group
 pub mod Encoding
+pub mod Lanes
 pub mod Standard
 pub mod Crypt

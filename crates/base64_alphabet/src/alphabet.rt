@@ -139,7 +139,7 @@ pub trait Alphabet: 'static + Copy + Debug + Eq + Sized {
         ensures range { IsPlace result }
         ensures steps { steps.new ≡ steps.old + 1 }
     {
-        steps.tick();
+        steps.add(1);
         Self::decode_6bits(src)
     }
 
@@ -150,7 +150,7 @@ pub trait Alphabet: 'static + Copy + Debug + Eq + Sized {
         ensures character { result ≡ slice_index table (unsigned_abs src) }
         ensures steps { steps.new ≡ steps.old + 1 }
     {
-        steps.tick();
+        steps.add(1);
         Self::encode_6bits(src)
     }
 

@@ -6,6 +6,7 @@ ghost use Rattle.base64_alphabet.specs.Table.{all_in};
 ghost use Rattle.base64_alphabet.specs.Encoding.{bytes_of_blocks, characters};
 
 use crate::alphabet::Alphabet;
+use crate::lanes;
 use crate::steps::Steps;
 use std::sync::ledger::Ledger;
 
@@ -25,13 +26,7 @@ pub fn decode_blocks<E: Alphabet, L: Ledger>(
     ensures rest { drop (3 * (length src.now / 4)) dst.new ≡ drop (3 * (length src.now / 4)) dst.old }
     ensures steps { steps.new ≡ steps.old + 4 * (length src.now / 4) }
 {
-    let mut good = true;
-    for block in 0..src.len() / 4 {
-        let from = &src[4 * block..4 * block + 4];
-        let answer = E::decode_3bytes_counted(from, &mut dst[3 * block..3 * block + 3], steps);
-        good &= answer == 0;
-    }
-    good
+    lanes::decode_run::<E, L>(src, dst, steps) == 0
 }
 
 /// Converts whole groups of bytes to their characters.

@@ -6,6 +6,7 @@
 mod alphabet;
 mod blocks;
 mod groups;
+pub mod lanes;
 mod steps;
 
 pub use crate::alphabet::shacrypt::Base64ShaCrypt;

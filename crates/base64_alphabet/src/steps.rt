@@ -7,7 +7,7 @@ use std::marker::Model;
 use std::sync::ledger::{Blank, Book, Ledger, Share};
 
 /// How many conversions of one character were made. It takes no memory and costs nothing when the
-/// program runs: only proofs see the count, and only `tick` raises it.
+/// program runs: only proofs see the count, and only `add` raises it.
 #[derive(Drop)]
 pub struct Steps<L: Ledger> {
     book: Book<L>,
@@ -35,10 +35,10 @@ impl<L: Ledger> Steps<L> {
         Steps { book, share }
     }
 
-    /// One conversion more.
-    pub(crate) fn tick(&mut self)
-        ensures { self.new ≡ self.old + 1 }
+    /// So many conversions more.
+    pub(crate) fn add(&mut self, conversions: u64)
+        ensures { self.new ≡ self.old + conversions }
     {
-        self.book.add(&mut self.share, 1);
+        self.book.add(&mut self.share, conversions);
     }
 }

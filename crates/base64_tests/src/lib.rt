@@ -8,4 +8,6 @@ mod encoders;
 #[cfg(test)]
 mod groups;
 #[cfg(test)]
+mod lanes;
+#[cfg(test)]
 mod texts;

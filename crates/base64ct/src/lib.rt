@@ -29,6 +29,6 @@ pub use crate::line_laws::{
 };
 pub use crate::wrapping::wrapped_len;
 pub use base64_alphabet::{
-    Alphabet, Base64, Base64ShaCrypt, Base64Unpadded, DecodeStep, EncodeStep, Steps, Unpad,
+    Alphabet, Base64, Base64ShaCrypt, Base64Unpadded, DecodeStep, EncodeStep, Steps, Unpad, lanes,
 };
 pub use base64_alphabets::{Base64Bcrypt, Base64Crypt, Base64Pbkdf2, Base64Url, Base64UrlUnpadded};

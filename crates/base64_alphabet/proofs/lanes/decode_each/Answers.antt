@@ -1,7 +1,7 @@
 use Rattle.std.proofs.Common.{◌≡◌, ℕ, ◌+◌, ◌*◌, ◌/◌, drop, length, refl, arith, slice_range, take, List, ◌∙◌, sym}
 use Rattle.std.proofs.lemmas.Grind.{common_steps}
 use Rattle.base64_alphabet.proofs.BlocksLemmas.{answer_step, part_in, written_step, rest_step, answer_end, written_end}
-use Rattle.base64_alphabet.proofs.blocks.decode_blocks.Goals as goal
+use Rattle.base64_alphabet.proofs.lanes.decode_each.Goals as goal
 
 pub loop-block-preserved : goal.loop-block-preserved
 loop-block-preserved g c =

@@ -1,7 +1,7 @@
 use Rattle.std.proofs.Common.{◌≡◌, ◌*◌, ◌+◌, ◌++◌, drop, take, true, ◌&&◌}
 use Rattle.base64_alphabet.specs.Table.{all_in}
 use Rattle.base64_alphabet.specs.Encoding.{bytes_of_blocks}
-use Rattle.base64_alphabet.proofs.blocks.decode_blocks.Given as goal
+use Rattle.base64_alphabet.proofs.lanes.decode_each.Given as goal
 
 -- what was seen and the rest give the answer, and what was written and the rest give the bytes
 abbrev pub invariant-loop-block : goal.invariant-loop-block
