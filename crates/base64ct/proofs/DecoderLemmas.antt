@@ -9,18 +9,18 @@ use Rattle.base64_alphabet.specs.Table.{all_in, is_in}
 use Rattle.base64_alphabet.specs.Group.{End, High, Low, bytes_of, characters_of}
 use Rattle.base64_alphabet.specs.Encoding.{characters, encoding_of, bytes_of_blocks, padding_len}
 use Rattle.base64_alphabet.proofs.TableLemmas.{Facts, ascii_at}
-use Rattle.base64ct.specs.Canonical.{IsBytes, decoded_len, unpadded_len, IsDecodeError, IsDecodeVecError, loose_bytes}
-use Rattle.base64ct.specs.LastBlock.{last_at, HasCanonicalEnd}
+use Rattle.base64_text.specs.Canonical.{IsBytes, decoded_len, unpadded_len, IsDecodeError, IsDecodeVecError, loose_bytes}
+use Rattle.base64_text.specs.LastBlock.{last_at, HasCanonicalEnd}
 use Rattle.base64ct.specs.Items.{block_items, items, IsCanonicalEnd, IsWrapped, IsWrapError}
-use Rattle.base64ct.specs.declared.errors.Error.{Error}
-use Rattle.base64ct.specs.declared.errors.Error.TheVariants.{InvalidEncoding, InvalidLength, OutOfMemory}
+use Rattle.base64_text.specs.declared.errors.Error.{Error}
+use Rattle.base64_text.specs.declared.errors.Error.TheVariants.{InvalidEncoding, InvalidLength, OutOfMemory}
 use Rattle.base64ct.specs.Lines.{IsLine, is_line_break, joined, has_endings, IsWrappedText}
-use Rattle.base64ct.proofs.Algebra.{is_in_at}
+use Rattle.base64_text.proofs.Algebra.{is_in_at}
 use Rattle.base64ct.proofs.LinesLemmas.{lines_are, joined-walk, joined_some, lines_back}
-use Rattle.base64ct.proofs.EncodingLemmas.{length-encoding_of}
-use Rattle.base64ct.proofs.LastLemmas.{is_last}
-use Rattle.base64ct.proofs.ItemsLemmas.{last_loose, map-append, encoding_items}
-use Rattle.base64ct.proofs.WholeLemmas.{whole_text, halves, written_text}
+use Rattle.base64_text.proofs.EncodingLemmas.{length-encoding_of, empty_value, encoding_all}
+use Rattle.base64_text.proofs.LastLemmas.{is_last, last_loose}
+use Rattle.base64ct.proofs.ItemsLemmas.{map-append, encoding_items}
+use Rattle.base64_text.proofs.WholeLemmas.{whole_text, halves, written_text}
 
 -- lists of good items
 pub map_some_back : (xs ys : List ℕ) → map {A = ℕ} {B = Option ℕ} Some xs ≡ map Some ys → xs ≡ ys
@@ -123,21 +123,6 @@ items_encoding end table padded t b f some (last, bytes, is) h =
           (block_items-bad end table (take (last_at (length t)) t) whole bad))))
     ]
 
-some_characters : (end : End) (table : List ℕ) (x : ℕ) (b : List ℕ) → 0 < length (characters end table (x ∷ b))
-unfolding characters
-some_characters High table x [] = omega arith
-some_characters Low table x [] = omega arith
-some_characters High table x (y ∷ []) = omega arith
-some_characters Low table x (y ∷ []) = omega arith
-some_characters High table x (y ∷ z ∷ b) = omega arith
-some_characters Low table x (y ∷ z ∷ b) = omega arith
-
-pub empty_value : (end : End) (table : List ℕ) (padded : Bool) (b : List ℕ) → encoding_of end table padded b ≡ [] → b ≡ []
-empty_value end table padded [] h = refl
-empty_value end table padded (x ∷ b) h = absurd (let s = some_characters end table x b in
-    let e = length-append (characters end table (x ∷ b)) (if padded then replicate (padding_len (length (x ∷ b))) 61 else []) in
-    let l = ap length h in omega arith)
-
 -- a text is the encoding of one list of bytes at most
 pub one_value : (end : End) (table : List ℕ) (padded : Bool) (t a b : List ℕ) → Facts table → IsBytes a → IsBytes b
     → t ≡ encoding_of end table padded a → t ≡ encoding_of end table padded b → a ≡ b
@@ -165,46 +150,8 @@ at_place table k f lt = let l = f.len in not_break table (slice_index table k) f
 abbrev NoBreak : ℕ → Type 0
 NoBreak c = is_line_break c ≡ false
 
--- what holds of each character of the table, and of `=`, holds of each character of an encoding
-all_of_four : (P : ℕ → Type 0) (p q r s : ℕ) → P p → P q → P r → P s → All P (p ∷ q ∷ r ∷ s ∷ [])
-all_of_four P p q r s a b c d = All-cons P p (q ∷ r ∷ s ∷ []) a (All-cons P q (r ∷ s ∷ []) b (All-cons P r (s ∷ []) c (All-cons P s [] d (All-nil P))))
-
-four_all : (P : ℕ → Type 0) (end : End) (table : List ℕ) (a b c : ℕ) → ((k : ℕ) → k < 64 → P (slice_index table k)) → a < 256 → b < 256 → c < 256 → All P (characters_of end table a b c)
-four_all P High table a b c h x y z =
-    let n : ℕ = a * 65536 + b * 256 + c in
-    all_of_four P (slice_index table (n / 262144)) (slice_index table (n / 4096 % 64)) (slice_index table (n / 64 % 64)) (slice_index table (n % 64))
-    (h (n / 262144) (omega arith)) (h (n / 4096 % 64) (omega arith)) (h (n / 64 % 64) (omega arith)) (h (n % 64) (omega arith))
-four_all P Low table a b c h x y z =
-    let n : ℕ = c * 65536 + b * 256 + a in
-    all_of_four P (slice_index table (n % 64)) (slice_index table (n / 64 % 64)) (slice_index table (n / 4096 % 64)) (slice_index table (n / 262144))
-    (h (n % 64) (omega arith)) (h (n / 64 % 64) (omega arith)) (h (n / 4096 % 64) (omega arith)) (h (n / 262144) (omega arith))
-
-characters_all : (P : ℕ → Type 0) (end : End) (table b : List ℕ) → ((k : ℕ) → k < 64 → P (slice_index table k)) → IsBytes b → All P (characters end table b)
-unfolding characters
-characters_all P end table [] h bytes = All-nil P
-characters_all P end table (x ∷ []) h bytes = All-take P 2 (characters_of end table x 0 0) (four_all P end table x 0 0 h (bytes 0 0 (omega arith)) (omega arith) (omega arith))
-characters_all P end table (x ∷ y ∷ []) h bytes = All-take P 3 (characters_of end table x y 0) (four_all P end table x y 0 h (bytes 0 0 (omega arith)) (bytes 1 0 (omega arith)) (omega arith))
-characters_all P end table (x ∷ y ∷ z ∷ b) h bytes = All-append P (characters_of end table x y z) (characters end table b)
-    (four_all P end table x y z h (bytes 0 0 (omega arith)) (bytes 1 0 (omega arith)) (bytes 2 0 (omega arith)))
-    (characters_all P end table b h (λ k d lt. bytes (suc (suc (suc k))) d (omega arith)))
-
-encoding_all : (P : ℕ → Type 0) (end : End) (table : List ℕ) (padded : Bool) (b : List ℕ) → ((k : ℕ) → k < 64 → P (slice_index table k)) → P 61 → IsBytes b → All P (encoding_of end table padded b)
-encoding_all P end table true b h pad bytes = All-append P (characters end table b) (replicate (padding_len (length b)) 61) (characters_all P end table b h bytes) (All-replicate P (padding_len (length b)) 61 pad)
-encoding_all P end table false b h pad bytes = All-append P (characters end table b) [] (characters_all P end table b h bytes) (All-nil P)
-
 pub encoding_line : (end : End) (table : List ℕ) (padded : Bool) (b : List ℕ) → Facts table → IsBytes b → IsLine (encoding_of end table padded b)
 encoding_line end table padded b f bytes = encoding_all NoBreak end table padded b (λ k lt. at_place table k f lt) refl bytes
-
-pub ascii_from_all : (xs : List ℕ) → All (λ c. c < 128) xs → IsAscii xs
-ascii_from_all [] h i = omega arith
-ascii_from_all (x ∷ xs) h zero = h 0 0 (omega arith)
-ascii_from_all (x ∷ xs) h (suc i) = ascii_from_all xs (All-tail (λ c. c < 128) x xs h) i
-
-pub encoding_all_ascii : (end : End) (table : List ℕ) (padded : Bool) (b : List ℕ) → Facts table → IsBytes b → All (λ c. c < 128) (encoding_of end table padded b)
-encoding_all_ascii end table padded b f bytes = encoding_all (λ c. c < 128) end table padded b (λ k lt. ascii_at table f.ascii k) (omega arith) bytes
-
-pub encoding_ascii : (end : End) (table : List ℕ) (padded : Bool) (b : List ℕ) → Facts table → IsBytes b → IsAscii (encoding_of end table padded b)
-encoding_ascii end table padded b f bytes = ascii_from_all (encoding_of end table padded b) (encoding_all_ascii end table padded b f bytes)
 
 -- ---- texts in lines
 
@@ -331,44 +278,3 @@ empty_end end table false = record { bytes = All-nil (λ x. x < 256); same = ref
 pub some_text : (end : End) (table : List ℕ) (padded : Bool) (t : List ℕ) → (length (items end table padded t) ≡ 0 → ⊥) → 0 < length t
 some_text end table padded [] h = absurd (h (ap length (empty_items end table padded)))
 some_text end table padded (x ∷ t) h = omega arith
-
--- ---- refusals of whole texts
-
--- a padded encoding has whole blocks
-pub whole_blocks : (end : End) (table t b : List ℕ) → t ≡ encoding_of end table true b → length t % 4 ≡ 0
-whole_blocks end table t b is =
-    let l = ap length is in
-    let e = length-encoding_of end table b true in
-    omega arith
-
-decoded_len_le : (u n : ℕ) → u ≤ n → decoded_len u ≤ decoded_len n
-decoded_len_le u n le = omega arith
-
-unpadded_le : (padded : Bool) (t : List ℕ) → unpadded_len padded t ≤ length t
-unpadded_le false t = omega arith
-unpadded_le true t = omega arith
-
--- with room for every text of this length
-pub vec_error : (end : End) (table : List ℕ) (padded : Bool) (t : List ℕ) (space : ℕ) (e : Error) → space ≡ decoded_len (length t)
-    → IsDecodeError end table padded t space e → IsDecodeVecError end table padded t e
-vec_error end table true t space InvalidEncoding is h = elim h [
-  | inl p ↦ λ b bytes text. p.1 (whole_blocks end table t b text)
-  | inr p ↦ p.2
-]
-vec_error end table false t space InvalidEncoding is h = elim h [
-  | inl p ↦ absurd (let e = p.0 in cc)
-  | inr p ↦ p.2
-]
-vec_error end table padded t space InvalidLength is h =
-    let le = decoded_len_le (unpadded_len padded t) (length t) (unpadded_le padded t) in
-    let lt = h.1 in
-    omega arith
-vec_error end table padded t space OutOfMemory is h = absurd h
-
-pub no_text : (t : List ℕ) → length t ≡ 0 → t ≡ []
-no_text [] h = refl
-no_text (x ∷ t) h = absurd (omega arith)
-
-pub no_blocks_text : (end : End) (table : List ℕ) (padded : Bool) (t b : List ℕ) → padded ≡ true → (length t % 4 ≡ 0 → ⊥) → t ≡ encoding_of end table padded b → ⊥
-no_blocks_text end table true t b is ne text = ne (whole_blocks end table t b text)
-no_blocks_text end table false t b is ne text = cc

@@ -1,14 +1,7 @@
-pub mod Algebra
-pub mod Texts
-pub mod LastLemmas
-pub mod WholeLemmas
 pub mod TailLemmas
 pub mod LinesLemmas
 pub mod ItemsLemmas
-pub mod EncodingLemmas
 pub mod DecoderLemmas
-pub mod LooseLemmas
-pub mod CountLemmas
 pub mod WrappingLemmas
 pub mod EncoderLemmas
 pub mod WrittenLemmas

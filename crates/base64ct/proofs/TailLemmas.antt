@@ -3,7 +3,7 @@ use Rattle.std.proofs.Common.{◌≡◌, ℕ, zero, suc, ◌+◌, ◌-◌, ◌*�
 use Rattle.std.proofs.lemmas.Bool.{cases_eq}
 use Rattle.std.proofs.lemmas.Grind.{common_steps}
 use Rattle.std.proofs.lemmas.List.{length-drop, drop_at, drop-append-le, length-set, take-append-drop}
-use Rattle.base64ct.specs.LastBlock.{last_at}
+use Rattle.base64_text.specs.LastBlock.{last_at}
 use Rattle.base64ct.specs.Walk.{IsTail}
 
 first_set : (block : List ℕ) (c : ℕ) → length block ≡ 4 → take 1 (set block 0 c) ≡ c ∷ []

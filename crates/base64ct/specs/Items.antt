@@ -3,11 +3,11 @@ use Rattle.std.specs.Prelude.{◌≡◌, ℕ, ◌+◌, ◌<◌, ◌≤◌, ◌^�
 use Rattle.base64_alphabet.specs.Table.{all_in}
 use Rattle.base64_alphabet.specs.Group.{End, bytes_of}
 use Rattle.base64_alphabet.specs.Encoding.{encoding_of}
-use Rattle.base64ct.specs.Canonical.{IsBytes, loose_bytes}
-use Rattle.base64ct.specs.LastBlock.{last_at, HasCanonicalEnd}
+use Rattle.base64_text.specs.Canonical.{IsBytes, loose_bytes}
+use Rattle.base64_text.specs.LastBlock.{last_at, HasCanonicalEnd}
 use Rattle.base64ct.specs.Lines.{joined, has_endings, ends_in_ending}
-use Rattle.base64ct.specs.declared.errors.Error.{Error}
-use Rattle.base64ct.specs.declared.errors.Error.TheVariants.{InvalidEncoding, InvalidLength, OutOfMemory}
+use Rattle.base64_text.specs.declared.errors.Error.{Error}
+use Rattle.base64_text.specs.declared.errors.Error.TheVariants.{InvalidEncoding, InvalidLength, OutOfMemory}
 
 -- the items of whole blocks: three bytes for each, or three bad items where a character isn't in the table
 unfoldable pub block_items : End → List ℕ → List ℕ → List (Option ℕ)

@@ -2,7 +2,7 @@
 use Rattle.std.specs.Prelude.{◌≡◌, ℕ, zero, suc, ◌<◌, ◌≤◌, nat_lt, Bool, true, false, ◌==◌, ◌&&◌, ◌||◌, if◌then◌else◌, List, [], ◌∷◌, ◌++◌, length, take, drop, All}
 use Rattle.base64_alphabet.specs.Group.{End}
 use Rattle.base64_alphabet.specs.Encoding.{encoding_of}
-use Rattle.base64ct.specs.Canonical.{IsBytes}
+use Rattle.base64_text.specs.Canonical.{IsBytes}
 
 -- CR, LF or CRLF
 pub data IsEnding : List ℕ → Type 0 where

@@ -1,6 +1,6 @@
 -- A walk over a text in lines, character by character from the front.
 use Rattle.std.specs.Prelude.{◌≡◌, ℕ, ◌-◌, ◌≤◌, Bool, true, false, ◌==◌, ◌&&◌, if◌then◌else◌, List, [], ◌∷◌, length, take, drop}
-use Rattle.base64ct.specs.LastBlock.{last_at}
+use Rattle.base64_text.specs.LastBlock.{last_at}
 use Rattle.base64ct.specs.Lines.{is_line_break}
 use Rattle.base64ct.specs.declared.lines.Walk.{Walk}
 

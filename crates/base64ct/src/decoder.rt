@@ -2,17 +2,14 @@
 #![tactic(auto)]
 
 ghost use Rattle.std.specs.Prelude.{◌≡◌, ℕ, ◌≤◌, ◌<◌, ◌+◌, ◌*◌, ◌^◌, ◌++◌, ◌⊎◌, ◌↔◌, map, length, vec_len, Some, None, Contains, OnOk, OnErr, IfOk, IfErr, IsOkAnd, [], List, true, false};
-ghost use Rattle.base64ct.specs.Canonical.{IsBytes};
-ghost use Rattle.base64ct.specs.LastBlock.{HasCanonicalEnd};
+ghost use Rattle.base64_text.specs.Canonical.{IsBytes};
+ghost use Rattle.base64_text.specs.LastBlock.{HasCanonicalEnd};
 ghost use Rattle.base64ct.specs.Lines.{joined, IsWrappedText};
 ghost use Rattle.base64ct.specs.Items.{items, IsCanonicalEnd, IsWrapped, IsWrapError, IsAppendError};
 
-use crate::decode_text::decode_front;
-use crate::encoding::Encoding;
-use crate::errors::Error;
-use crate::last_block::{decode_last, known};
 use crate::lines::{ends_in_break, join, scan};
 use base64_alphabet::Alphabet;
+use base64_text::{Encoding, Error, decode_front, decode_last, known};
 use std::marker::{Model, PhantomData};
 
 /// Decodes a text in lines, such as the body of a PEM document. It borrows the text, and is seen as the

@@ -3,8 +3,8 @@ use Rattle.std.proofs.lemmas.Bool.{eqb-false, both_ways}
 use Rattle.std.proofs.lemmas.List.{length-take-le}
 use Rattle.base64_alphabet.specs.Encoding.{encoding_of}
 use Rattle.base64_alphabet.proofs.TableLemmas.{facts}
-use Rattle.base64ct.specs.Canonical.{IsBytes}
-use Rattle.base64ct.specs.LastBlock.{last_at}
+use Rattle.base64_text.specs.Canonical.{IsBytes}
+use Rattle.base64_text.specs.LastBlock.{last_at}
 use Rattle.base64ct.specs.Lines.{joined, has_endings}
 use Rattle.base64ct.specs.Walk.{joined_from}
 use Rattle.base64ct.proofs.LinesLemmas.{joined_some, joined-walk, has_endings-walk}

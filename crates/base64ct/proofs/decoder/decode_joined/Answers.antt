@@ -5,8 +5,8 @@ use Rattle.std.proofs.lemmas.List.Elements.{Contains-append_left}
 use Rattle.base64_alphabet.specs.Table.{all_in}
 use Rattle.base64_alphabet.specs.Encoding.{encoding_of}
 use Rattle.base64_alphabet.proofs.TableLemmas.{facts}
-use Rattle.base64ct.specs.Canonical.{IsBytes, loose_bytes}
-use Rattle.base64ct.specs.LastBlock.{last_at}
+use Rattle.base64_text.specs.Canonical.{IsBytes, loose_bytes}
+use Rattle.base64_text.specs.LastBlock.{last_at}
 use Rattle.base64ct.specs.Items.{block_items}
 use Rattle.base64ct.proofs.DecoderLemmas.{canonical_loose, length-items, block_items-bad, decoded_items}
 use Rattle.base64ct.proofs.decoder.decode_joined.Goals as goal
