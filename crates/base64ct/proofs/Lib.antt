@@ -1,7 +1,9 @@
-pub mod TailLemmas
+pub mod ReaderLemmas
 pub mod LinesLemmas
 pub mod ItemsLemmas
 pub mod DecoderLemmas
+pub mod LeftLemmas
+pub mod BeginLemmas
 pub mod WrappingLemmas
 pub mod EncoderLemmas
 pub mod WrittenLemmas

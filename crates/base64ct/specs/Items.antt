@@ -39,3 +39,26 @@ abbrev pub IsAppendError : List (Option ℕ) → ℕ → Error → Type 0
 IsAppendError left n InvalidLength = 2 ^ 64 ≤ length left + n
 IsAppendError left n InvalidEncoding = (length left + n < 2 ^ 64) × Contains left None
 IsAppendError left n OutOfMemory = length left + n < 2 ^ 64
+
+-- why `new` refuses a text, behind which an ending was dropped
+abbrev pub IsNewError : End → List ℕ → Bool → List ℕ → Error → Type 0
+IsNewError end table padded text InvalidLength = length text ≡ 0
+IsNewError end table padded text InvalidEncoding = (0 < length text) × (HasCanonicalEnd end table padded text → ⊥)
+IsNewError end table padded text OutOfMemory = ⊥
+
+-- why n bytes are not taken from what is left
+abbrev pub IsTakeError : List (Option ℕ) → ℕ → Error → Type 0
+IsTakeError left n InvalidLength = length left < n
+IsTakeError left n InvalidEncoding = (n ≤ length left) × Contains (take n left) None
+IsTakeError left n OutOfMemory = ⊥
+
+-- a byte before some that are known
+abbrev pub with_first : ℕ → Option (List ℕ) → Option (List ℕ)
+with_first x None = None
+with_first x (Some xs) = Some (x ∷ xs)
+
+-- the bytes of items, where none is bad
+abbrev pub known_bytes : List (Option ℕ) → Option (List ℕ)
+known_bytes [] = Some []
+known_bytes (None ∷ left) = None
+known_bytes (Some x ∷ left) = with_first x (known_bytes left)

@@ -4,6 +4,7 @@
 
 mod decoder;
 mod encoder;
+mod left;
 mod line_ending;
 mod line_laws;
 mod lines;
