@@ -1,13 +1,14 @@
 -- How a decoder begins.
-use Rattle.std.proofs.Common.{◌≡◌, ℕ, ◌+◌, ◌-◌, ◌*◌, ◌/◌, ◌<◌, ◌≤◌, Bool, true, false, List, [], ◌++◌, length, take, drop, arith, refl, ap, sym, ◌∙◌, map, Option, Some, inl, inr}
-use Rattle.std.proofs.lemmas.Bool.{both_ways}
+use Rattle.std.proofs.Common.{◌≡◌, ℕ, zero, suc, ◌+◌, ◌-◌, ◌*◌, ◌/◌, ◌<◌, ◌≤◌, Bool, true, false, List, [], ◌++◌, length, take, drop, arith, refl, ap, sym, ◌∙◌, map, Option, Some, inl, inr, Result, Ok, Err, IfOk, IfErr, IsOkAnd, subst, nat_lt, if◌then◌else◌}
+use Rattle.std.proofs.lemmas.Bool.{both_ways, le-ltb}
 use Rattle.base64_alphabet.specs.Group.{End}
 use Rattle.base64_alphabet.specs.Encoding.{encoding_of}
 use Rattle.base64_alphabet.proofs.TableLemmas.{Facts}
 use Rattle.base64_text.specs.Canonical.{IsBytes, IsNoEncoding}
 use Rattle.base64_text.specs.LastBlock.{last_at, HasCanonicalEnd}
+use Rattle.base64_text.specs.declared.errors.Error.{Error}
 use Rattle.base64ct.specs.Items.{block_items, items}
-use Rattle.base64ct.specs.Lines.{joined, has_endings}
+use Rattle.base64ct.specs.Lines.{joined, joined_within, has_endings, has_endings_within}
 use Rattle.base64ct.specs.Walk.{joined_from, has_endings_from, IsCut}
 use Rattle.base64ct.proofs.DecoderLemmas.{canonical_loose}
 use Rattle.base64ct.proofs.LinesLemmas.{has_endings-walk, joined-walk, joined_some}
@@ -65,3 +66,36 @@ no_endings w text low bad good = both_ways (has_endings w text) (has_endings-wal
 
 pub no_end : (end : End) (table : List ℕ) (padded : Bool) (t block : List ℕ) → block ≡ drop (last_at (length t)) t → IsNoEncoding end table padded block → HasCanonicalEnd end table padded t → ⊥
 no_end end table padded t block at none (b, bytes, is) = none b bytes (at ∙ is)
+
+-- a text that is no longer than the width is one line
+flat_join : (n w : ℕ) (text : List ℕ) → length text ≤ w → joined_within n w text ≡ text
+flat_join zero w text le = refl
+flat_join (suc n) w text le = rw (le-ltb w (length text) le) refl
+
+flat_ends : (n w : ℕ) (text : List ℕ) → length text ≤ w → has_endings_within n w text ≡ true
+flat_ends zero w text le = refl
+flat_ends (suc n) w text le = rw (le-ltb w (length text) le) refl
+
+pub one_line : (w : ℕ) (text : List ℕ) → length text ≤ w → (joined w text ≡ text) × (has_endings w text ≡ true)
+one_line w text le = (flat_join (length text) w text le, flat_ends (length text) w text le)
+
+-- ---- answers of a call
+
+pub ok_then : {X : Type 0} (P R : X → Type 0) (r : Result X Error) → IfOk r P → ((x : X) → P x → R x) → IfOk r R
+ok_then P R (Ok x) p f = f x p
+ok_then P R (Err e) p f = p
+
+pub ok_both : {X : Type 0} (P Q : X → Type 0) (r : Result X Error) → IfOk r P → IfOk r Q → IfOk r (λ x. P x × Q x)
+ok_both P Q (Ok x) p q = (p, q)
+ok_both P Q (Err e) p q = p
+
+pub err_then : {X : Type 0} (P R : Error → Type 0) (r : Result X Error) → IfErr r P → ((e : Error) → P e → R e) → IfErr r R
+err_then P R (Ok x) p f = p
+err_then P R (Err e) p f = f e p
+
+pub ok_when : {X : Type 0} (P R : X → Type 0) (Q : Error → Type 0) (r : Result X Error) → IfOk r P → IfErr r Q → ((x : X) → P x → R x) → ((e : Error) → Q e → ⊥) → IsOkAnd r R
+ok_when P R Q (Ok x) p q f bad = f x p
+ok_when P R Q (Err e) p q f bad = bad e q
+
+pub err_at : {X : Type 0} (Q : Error → Type 0) (r : Result X Error) (e : Error) → r ≡ Err e → IfErr r Q → Q e
+err_at {X} Q r e is h = let P : Result X Error → Type 0 = λ x. IfErr x Q in subst P is h

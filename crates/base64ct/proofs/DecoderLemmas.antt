@@ -11,7 +11,7 @@ use Rattle.base64_alphabet.specs.Encoding.{characters, encoding_of, bytes_of_blo
 use Rattle.base64_alphabet.proofs.TableLemmas.{Facts, ascii_at}
 use Rattle.base64_text.specs.Canonical.{IsBytes, decoded_len, unpadded_len, IsDecodeError, IsDecodeVecError, loose_bytes}
 use Rattle.base64_text.specs.LastBlock.{last_at, HasCanonicalEnd}
-use Rattle.base64ct.specs.Items.{block_items, items, IsCanonicalEnd, IsWrapped, IsWrapError}
+use Rattle.base64ct.specs.Items.{block_items, items, IsWrapped}
 use Rattle.base64_text.specs.declared.errors.Error.{Error}
 use Rattle.base64_text.specs.declared.errors.Error.TheVariants.{InvalidEncoding, InvalidLength, OutOfMemory}
 use Rattle.base64ct.specs.Lines.{IsLine, is_line_break, joined, has_endings, IsWrappedText}
@@ -130,10 +130,6 @@ one_value end table padded [] a b f x y p q = empty_value end table padded a (sy
 one_value end table padded (c ∷ t) a b f x y p q =
     map_some_back a b (sym (encoding_items end table padded (c ∷ t) a f x (omega arith) p) ∙ encoding_items end table padded (c ∷ t) b f y (omega arith) q)
 
-pub encoding_of-injective : (end : End) (table : List ℕ) (padded : Bool) (a b : List ℕ) → Facts table → IsBytes a → IsBytes b
-    → encoding_of end table padded a ≡ encoding_of end table padded b → a ≡ b
-encoding_of-injective end table padded a b f x y h = one_value end table padded (encoding_of end table padded a) a b f x y refl h
-
 -- an encoding has no CR and no LF
 not_break : (table : List ℕ) (c : ℕ) → Facts table → is_in table c ≡ true → is_line_break c ≡ false
 not_break table c f is = elim (cases_Bool (c == 13)) [
@@ -188,15 +184,6 @@ bytes_of_lines end table padded w text b f low some (last, ends, canonical) byte
     let line : IsLine (joined w text) = All-same NoBreak (joined w text) (encoding_of end table padded b) is (encoding_line end table padded b f bytes) in
     (joined w text, lines_back w text low some ends last line, is, bytes)
 
--- the last block is the encoding of the bytes that it stands for
-pub canonical_end : (end : End) (table : List ℕ) (padded : Bool) (t : List ℕ) → Facts table → 0 < length t → HasCanonicalEnd end table padded t → IsCanonicalEnd end table padded t
-canonical_end end table padded t f some (b, bytes, is) =
-    let e = canonical_loose end table padded t b f some bytes is in
-    record {
-      bytes = All-same (λ x. x < 256) (loose_bytes end table padded (drop (last_at (length t)) t)) b e bytes;
-      same = is ∙ ap (encoding_of end table padded) (sym e);
-    }
-
 -- how many items there are
 pub length-items : (end : End) (table : List ℕ) (padded : Bool) (t : List ℕ) → 0 < length t
     → length (items end table padded t) ≡ 3 * ((length t - 1) / 4) + length (loose_bytes end table padded (drop (last_at (length t)) t))
@@ -207,54 +194,6 @@ length-items end table padded t some =
     let both = length-append (block_items end table (take (last_at (length t)) t)) (map Some (loose_bytes end table padded (drop (last_at (length t)) t))) in
     let rest = length-map_some (loose_bytes end table padded (drop (last_at (length t)) t)) in
     omega arith
-
--- no text is left
-pub empty_items : (end : End) (table : List ℕ) (padded : Bool) → items end table padded [] ≡ []
-unfolding block_items bytes_of_blocks
-empty_items end table true = refl
-empty_items end table false = refl
-
--- what was written are the items
-pub decoded_items : (end : End) (table : List ℕ) (padded : Bool) (t dst tail new buf : List ℕ) (k : ℕ) → 0 < length t → length dst ≡ length (items end table padded t)
-    → all_in table (take (4 * ((length t - 1) / 4)) t) ≡ true
-    → dst ≡ bytes_of_blocks end table (take (4 * ((length t - 1) / 4)) t) ++ tail → new ≡ buf → length buf ≡ k
-    → loose_bytes end table padded (drop (last_at (length t)) t) ≡ buf
-    → items end table padded t ≡ map Some (put_mid (3 * ((length t - 1) / 4)) (3 * ((length t - 1) / 4) + k - 3 * ((length t - 1) / 4)) dst new)
-decoded_items end table padded t dst tail new buf k some long good was is len loose =
-    let q : ℕ = (length t - 1) / 4 in
-    let le : 4 * ((length t - 1) / 4) ≤ length t = omega arith in
-    let front : length (take (4 * ((length t - 1) / 4)) t) ≡ 4 * ((length t - 1) / 4) = length-take-le (4 * ((length t - 1) / 4)) t le in
-    let n = length-items end table padded t some in
-    let l = ap length loose in
-    let whole : length dst ≡ 3 * ((length t - 1) / 4) + k = omega arith in
-    let written = written_text end table t dst tail new buf ((length t - 1) / 4) k le (omega arith) was is len in
-    let same = ap length is in
-    let behind : drop (3 * ((length t - 1) / 4) + k) (put_mid (3 * ((length t - 1) / 4)) (3 * ((length t - 1) / 4) + k - 3 * ((length t - 1) / 4)) dst new) ≡ []
-    = drop-put_mid (3 * ((length t - 1) / 4)) (3 * ((length t - 1) / 4) + k - 3 * ((length t - 1) / 4)) dst new (3 * ((length t - 1) / 4) + k) (omega arith) (omega arith) (omega arith)
-    ∙ drop_all (3 * ((length t - 1) / 4) + k) dst (omega arith) in
-    let all : take (3 * ((length t - 1) / 4) + k) (put_mid (3 * ((length t - 1) / 4)) (3 * ((length t - 1) / 4) + k - 3 * ((length t - 1) / 4)) dst new)
-    ≡ put_mid (3 * ((length t - 1) / 4)) (3 * ((length t - 1) / 4) + k - 3 * ((length t - 1) / 4)) dst new
-    = sym (append-nil _) ∙ ap (λ xs. take (3 * ((length t - 1) / 4) + k) (put_mid (3 * ((length t - 1) / 4)) (3 * ((length t - 1) / 4) + k - 3 * ((length t - 1) / 4)) dst new) ++ xs) (sym behind)
-    ∙ take-append-drop (3 * ((length t - 1) / 4) + k) (put_mid (3 * ((length t - 1) / 4)) (3 * ((length t - 1) / 4) + k - 3 * ((length t - 1) / 4)) dst new) in
-    ap (λ xs. xs ++ map Some (loose_bytes end table padded (drop (last_at (length t)) t))) (block_items-good end table (take (4 * ((length t - 1) / 4)) t) (omega arith) good)
-    ∙ ap (λ xs. map Some (bytes_of_blocks end table (take (4 * ((length t - 1) / 4)) t)) ++ map Some xs) loose
-    ∙ map-append (bytes_of_blocks end table (take (4 * ((length t - 1) / 4)) t)) buf
-    ∙ ap (map Some) (sym written ∙ all)
-
--- lines of an encoding are refused for no reason
-pub no_wrap_error : (end : End) (table : List ℕ) (padded : Bool) (w : ℕ) (text b : List ℕ) (e : Error) → Facts table → 4 ≤ w → IsWrappedText end table padded w text b
-    → IsWrapError end table padded w text e → ⊥
-no_wrap_error end table padded w text b InvalidEncoding f low wrapped h = h.2 ((of_bytes end table padded w text b f (omega arith) wrapped).accepted)
-no_wrap_error end table padded w text b InvalidLength f low wrapped h =
-    let some = (of_bytes end table padded w text b f (omega arith) wrapped).some in
-    elim h [ inl few ↦ omega arith | inr none ↦ omega arith ]
-no_wrap_error end table padded w text b OutOfMemory f low wrapped h = h
-
-pub no_wrapped_bytes : (end : End) (table : List ℕ) (padded : Bool) (w : ℕ) (text b : List ℕ) (e : Error) → Facts table → e ≡ InvalidEncoding → IsWrapError end table padded w text e
-    → IsWrappedText end table padded w text b → ⊥
-no_wrapped_bytes end table padded w text b InvalidEncoding f is h wrapped = no_wrap_error end table padded w text b InvalidEncoding f h.0 wrapped h
-no_wrapped_bytes end table padded w text b InvalidLength f is h wrapped = cc
-no_wrapped_bytes end table padded w text b OutOfMemory f is h wrapped = cc
 
 -- what stood before
 pub front_of : (old rest : List ℕ) (start n : ℕ) → start ≡ length old → start ≤ n → take start (take n old ++ rest) ≡ old
@@ -268,13 +207,3 @@ pub appended : (items old out post rest : List ℕ) (start n : ℕ) → take sta
 appended items old out post rest start n front none behind is =
     let l = length-append old out in
     rw (behind, none, front, append-nil, append-nil) (take_all n (old ++ out) (omega arith))
-
--- an empty text has a canonical end
-pub empty_end : (end : End) (table : List ℕ) (padded : Bool) → IsCanonicalEnd end table padded []
-unfolding bytes_of_blocks characters
-empty_end end table true = record { bytes = All-nil (λ x. x < 256); same = refl }
-empty_end end table false = record { bytes = All-nil (λ x. x < 256); same = refl }
-
-pub some_text : (end : End) (table : List ℕ) (padded : Bool) (t : List ℕ) → (length (items end table padded t) ≡ 0 → ⊥) → 0 < length t
-some_text end table padded [] h = absurd (h (ap length (empty_items end table padded)))
-some_text end table padded (x ∷ t) h = omega arith

@@ -4,6 +4,7 @@ pub mod ItemsLemmas
 pub mod DecoderLemmas
 pub mod LeftLemmas
 pub mod BeginLemmas
+pub mod TakenLemmas
 pub mod WrappingLemmas
 pub mod EncoderLemmas
 pub mod WrittenLemmas

@@ -18,11 +18,6 @@ block_items end table _ = []
 abbrev pub items : End → List ℕ → Bool → List ℕ → List (Option ℕ)
 items end table padded t = block_items end table (take (last_at (length t)) t) ++ map Some (loose_bytes end table padded (drop (last_at (length t)) t))
 
--- the last block of a text is the encoding of the bytes that it stands for
-pub record IsCanonicalEnd (end : End) (table : List ℕ) (padded : Bool) (t : List ℕ) : Type 0 where
-  pub bytes : IsBytes (loose_bytes end table padded (drop (last_at (length t)) t))
-  pub same : drop (last_at (length t)) t ≡ encoding_of end table padded (loose_bytes end table padded (drop (last_at (length t)) t))
-
 -- each line that is cut off has its ending, none follows the last, and the last block of the lines joined
 -- is canonical
 abbrev pub IsWrapped : End → List ℕ → Bool → ℕ → List ℕ → Type 0

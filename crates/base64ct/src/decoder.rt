@@ -81,7 +81,10 @@ impl<'i, E: Encoding> Decoder<'i, E> {
         ensures no_bytes { result ≡ Err Error.InvalidEncoding
             → (b : List ℕ) → IsWrappedText E.end E.table E.PADDED line_width input.now b → ⊥ }
     {
-        if line_width < MIN_LINE_WIDTH || input.is_empty() {
+        if line_width < MIN_LINE_WIDTH {
+            return Err(Error::InvalidLength);
+        }
+        if input.is_empty() {
             return Err(Error::InvalidLength);
         }
         if ends_in_break(input) {
@@ -96,9 +99,8 @@ impl<'i, E: Encoding> Decoder<'i, E> {
         ensures items { IfOk result (λ d. d ≡ items E.end E.table E.PADDED (joined width text.now)) }
         ensures endings { IfOk result (λ _. has_endings width text.now ≡ true) }
         ensures canonical { IfOk result (λ _. HasCanonicalEnd E.end E.table E.PADDED (joined width text.now)) }
-        ensures encoding { IfErr result (λ error. error ≡ Error.InvalidEncoding) }
-        ensures err { IfErr result (λ _. has_endings width text.now ≡ true
-            → HasCanonicalEnd E.end E.table E.PADDED (joined width text.now) → ⊥) }
+        ensures err { IfErr result (λ error. (error ≡ Error.InvalidEncoding) × (has_endings width text.now ≡ true
+            → HasCanonicalEnd E.end E.table E.PADDED (joined width text.now) → ⊥)) }
     {
         match begin::<E>(text, width) {
             Ok((left, remaining)) => Ok(Decoder {

@@ -40,7 +40,7 @@ pub(crate) fn begin<'i, E: Alphabet>(text: &'i [u8], width: usize) -> Result<(Le
     ensures len { IfOk result (λ begun. begun.1 ≡ length (items_left E.end E.table begun.0)) }
     ensures endings { IfOk result (λ _. has_endings width text.now ≡ true) }
     ensures canonical { IfOk result (λ _. HasCanonicalEnd E.end E.table E.PADDED (joined width text.now)) }
-    ensures encoding { IfErr result (λ error. error ≡ Error.InvalidEncoding) }
+    ensures error { IfErr result (λ error. error ≡ Error.InvalidEncoding) }
     ensures err { IfErr result (λ _. has_endings width text.now ≡ true → HasCanonicalEnd E.end E.table E.PADDED (joined width text.now) → ⊥) }
 {
     let Some(cut) = cut_lines(text, width) else {
@@ -75,7 +75,8 @@ pub(crate) fn begin<'i, E: Alphabet>(text: &'i [u8], width: usize) -> Result<(Le
 fn last_block(line: &[u8], rest: &[u8], len: usize) -> [u8; 4]
     requires most { len ≤ 4 }
     requires within { len ≤ length line.now + length rest.now }
-    ensures { take len result ≡ drop (length line.now + length rest.now - len) (line.now ++ rest.now) }
+    ensures block { take len result ≡ drop (length line.now + length rest.now - len) (line.now ++ rest.now) }
+    ensures long { length result ≡ 4 }
 {
     let mut block = [0u8; 4];
     let behind = rest.len().min(len);

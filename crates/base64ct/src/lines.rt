@@ -122,10 +122,10 @@ fn behind_break(text: &[u8]) -> Option<&[u8]>
 pub(crate) fn ends_in_break(text: &[u8]) -> bool
     ensures { result ≡ ends_in_ending text.now }
 {
-    match text.last() {
-        Some(c) => is_break(*c),
-        None => false,
+    if text.is_empty() {
+        return false;
     }
+    is_break(text[text.len() - 1])
 }
 
 /// A text without the CR, LF or CRLF that it ends in.
