@@ -11,7 +11,7 @@ use std::io::{ErrorKind, Write};
 const ENDINGS: [LineEnding; 3] = [LineEnding::CR, LineEnding::LF, LineEnding::CRLF];
 
 // The bytes 3, 10, 17 and so on, modulo 256, and their encoding by python's base64.
-fn two_hundred_bytes() -> [u8; 200] {
+pub(crate) fn two_hundred_bytes() -> [u8; 200] {
     let mut bytes = [0u8; 200];
     let mut next = 3u8;
     for byte in bytes.iter_mut() {
@@ -21,7 +21,7 @@ fn two_hundred_bytes() -> [u8; 200] {
     bytes
 }
 
-const TWO_HUNDRED_BYTES: &str =
+pub(crate) const TWO_HUNDRED_BYTES: &str =
     "AwoRGB8mLTQ7QklQV15lbHN6gYiPlp2kq7K5wMfO1dzj6vH4/wYNFBsiKTA3PkVMU1phaG92fYSLkpmgp661\
     vMPK0djf5u30+wIJEBceJSwzOkFIT1ZdZGtyeYCHjpWco6qxuL/GzdTb4unw9/4FDBMaISgvNj1ES1JZYGdu\
     dXyDipGYn6attLvCydDX3uXs8/oBCA8WHSQrMjlAR05VXGNqcXh/ho2Um6KpsLe+xczT2uHo7/b9BAsSGSAn\

@@ -4,6 +4,8 @@
 #[cfg(test)]
 mod alphabets;
 #[cfg(test)]
+mod decoders;
+#[cfg(test)]
 mod encoders;
 #[cfg(test)]
 mod groups;

@@ -9,18 +9,18 @@ use Rattle.base64_alphabet.specs.Table.{all_in, is_in}
 use Rattle.base64_alphabet.specs.Group.{End, High, Low, bytes_of, characters_of}
 use Rattle.base64_alphabet.specs.Encoding.{characters, encoding_of, bytes_of_blocks, padding_len}
 use Rattle.base64_alphabet.proofs.TableLemmas.{Facts, ascii_at}
-use Rattle.base64ct.specs.Canonical.{IsBytes, decoded_len, unpadded_len, IsDecodeError, IsDecodeVecError, loose_bytes}
-use Rattle.base64ct.specs.LastBlock.{last_at, HasCanonicalEnd}
-use Rattle.base64ct.specs.Items.{block_items, items, IsCanonicalEnd, IsWrapped, IsWrapError}
-use Rattle.base64ct.specs.declared.errors.Error.{Error}
-use Rattle.base64ct.specs.declared.errors.Error.TheVariants.{InvalidEncoding, InvalidLength, OutOfMemory}
+use Rattle.base64_text.specs.Canonical.{IsBytes, decoded_len, unpadded_len, IsDecodeError, IsDecodeVecError, loose_bytes}
+use Rattle.base64_text.specs.LastBlock.{last_at, HasCanonicalEnd}
+use Rattle.base64ct.specs.Items.{block_items, items, IsWrapped}
+use Rattle.base64_text.specs.declared.errors.Error.{Error}
+use Rattle.base64_text.specs.declared.errors.Error.TheVariants.{InvalidEncoding, InvalidLength, OutOfMemory}
 use Rattle.base64ct.specs.Lines.{IsLine, is_line_break, joined, has_endings, IsWrappedText}
-use Rattle.base64ct.proofs.Algebra.{is_in_at}
+use Rattle.base64_text.proofs.Algebra.{is_in_at}
 use Rattle.base64ct.proofs.LinesLemmas.{lines_are, joined-walk, joined_some, lines_back}
-use Rattle.base64ct.proofs.EncodingLemmas.{length-encoding_of}
-use Rattle.base64ct.proofs.LastLemmas.{is_last}
-use Rattle.base64ct.proofs.ItemsLemmas.{last_loose, map-append, encoding_items}
-use Rattle.base64ct.proofs.WholeLemmas.{whole_text, halves, written_text}
+use Rattle.base64_text.proofs.EncodingLemmas.{length-encoding_of, empty_value, encoding_all}
+use Rattle.base64_text.proofs.LastLemmas.{is_last, last_loose}
+use Rattle.base64ct.proofs.ItemsLemmas.{map-append, encoding_items}
+use Rattle.base64_text.proofs.WholeLemmas.{whole_text, halves, written_text}
 
 -- lists of good items
 pub map_some_back : (xs ys : List ℕ) → map {A = ℕ} {B = Option ℕ} Some xs ≡ map Some ys → xs ≡ ys
@@ -123,31 +123,12 @@ items_encoding end table padded t b f some (last, bytes, is) h =
           (block_items-bad end table (take (last_at (length t)) t) whole bad))))
     ]
 
-some_characters : (end : End) (table : List ℕ) (x : ℕ) (b : List ℕ) → 0 < length (characters end table (x ∷ b))
-unfolding characters
-some_characters High table x [] = omega arith
-some_characters Low table x [] = omega arith
-some_characters High table x (y ∷ []) = omega arith
-some_characters Low table x (y ∷ []) = omega arith
-some_characters High table x (y ∷ z ∷ b) = omega arith
-some_characters Low table x (y ∷ z ∷ b) = omega arith
-
-pub empty_value : (end : End) (table : List ℕ) (padded : Bool) (b : List ℕ) → encoding_of end table padded b ≡ [] → b ≡ []
-empty_value end table padded [] h = refl
-empty_value end table padded (x ∷ b) h = absurd (let s = some_characters end table x b in
-    let e = length-append (characters end table (x ∷ b)) (if padded then replicate (padding_len (length (x ∷ b))) 61 else []) in
-    let l = ap length h in omega arith)
-
 -- a text is the encoding of one list of bytes at most
 pub one_value : (end : End) (table : List ℕ) (padded : Bool) (t a b : List ℕ) → Facts table → IsBytes a → IsBytes b
     → t ≡ encoding_of end table padded a → t ≡ encoding_of end table padded b → a ≡ b
 one_value end table padded [] a b f x y p q = empty_value end table padded a (sym p) ∙ sym (empty_value end table padded b (sym q))
 one_value end table padded (c ∷ t) a b f x y p q =
     map_some_back a b (sym (encoding_items end table padded (c ∷ t) a f x (omega arith) p) ∙ encoding_items end table padded (c ∷ t) b f y (omega arith) q)
-
-pub encoding_of-injective : (end : End) (table : List ℕ) (padded : Bool) (a b : List ℕ) → Facts table → IsBytes a → IsBytes b
-    → encoding_of end table padded a ≡ encoding_of end table padded b → a ≡ b
-encoding_of-injective end table padded a b f x y h = one_value end table padded (encoding_of end table padded a) a b f x y refl h
 
 -- an encoding has no CR and no LF
 not_break : (table : List ℕ) (c : ℕ) → Facts table → is_in table c ≡ true → is_line_break c ≡ false
@@ -165,46 +146,8 @@ at_place table k f lt = let l = f.len in not_break table (slice_index table k) f
 abbrev NoBreak : ℕ → Type 0
 NoBreak c = is_line_break c ≡ false
 
--- what holds of each character of the table, and of `=`, holds of each character of an encoding
-all_of_four : (P : ℕ → Type 0) (p q r s : ℕ) → P p → P q → P r → P s → All P (p ∷ q ∷ r ∷ s ∷ [])
-all_of_four P p q r s a b c d = All-cons P p (q ∷ r ∷ s ∷ []) a (All-cons P q (r ∷ s ∷ []) b (All-cons P r (s ∷ []) c (All-cons P s [] d (All-nil P))))
-
-four_all : (P : ℕ → Type 0) (end : End) (table : List ℕ) (a b c : ℕ) → ((k : ℕ) → k < 64 → P (slice_index table k)) → a < 256 → b < 256 → c < 256 → All P (characters_of end table a b c)
-four_all P High table a b c h x y z =
-    let n : ℕ = a * 65536 + b * 256 + c in
-    all_of_four P (slice_index table (n / 262144)) (slice_index table (n / 4096 % 64)) (slice_index table (n / 64 % 64)) (slice_index table (n % 64))
-    (h (n / 262144) (omega arith)) (h (n / 4096 % 64) (omega arith)) (h (n / 64 % 64) (omega arith)) (h (n % 64) (omega arith))
-four_all P Low table a b c h x y z =
-    let n : ℕ = c * 65536 + b * 256 + a in
-    all_of_four P (slice_index table (n % 64)) (slice_index table (n / 64 % 64)) (slice_index table (n / 4096 % 64)) (slice_index table (n / 262144))
-    (h (n % 64) (omega arith)) (h (n / 64 % 64) (omega arith)) (h (n / 4096 % 64) (omega arith)) (h (n / 262144) (omega arith))
-
-characters_all : (P : ℕ → Type 0) (end : End) (table b : List ℕ) → ((k : ℕ) → k < 64 → P (slice_index table k)) → IsBytes b → All P (characters end table b)
-unfolding characters
-characters_all P end table [] h bytes = All-nil P
-characters_all P end table (x ∷ []) h bytes = All-take P 2 (characters_of end table x 0 0) (four_all P end table x 0 0 h (bytes 0 0 (omega arith)) (omega arith) (omega arith))
-characters_all P end table (x ∷ y ∷ []) h bytes = All-take P 3 (characters_of end table x y 0) (four_all P end table x y 0 h (bytes 0 0 (omega arith)) (bytes 1 0 (omega arith)) (omega arith))
-characters_all P end table (x ∷ y ∷ z ∷ b) h bytes = All-append P (characters_of end table x y z) (characters end table b)
-    (four_all P end table x y z h (bytes 0 0 (omega arith)) (bytes 1 0 (omega arith)) (bytes 2 0 (omega arith)))
-    (characters_all P end table b h (λ k d lt. bytes (suc (suc (suc k))) d (omega arith)))
-
-encoding_all : (P : ℕ → Type 0) (end : End) (table : List ℕ) (padded : Bool) (b : List ℕ) → ((k : ℕ) → k < 64 → P (slice_index table k)) → P 61 → IsBytes b → All P (encoding_of end table padded b)
-encoding_all P end table true b h pad bytes = All-append P (characters end table b) (replicate (padding_len (length b)) 61) (characters_all P end table b h bytes) (All-replicate P (padding_len (length b)) 61 pad)
-encoding_all P end table false b h pad bytes = All-append P (characters end table b) [] (characters_all P end table b h bytes) (All-nil P)
-
 pub encoding_line : (end : End) (table : List ℕ) (padded : Bool) (b : List ℕ) → Facts table → IsBytes b → IsLine (encoding_of end table padded b)
 encoding_line end table padded b f bytes = encoding_all NoBreak end table padded b (λ k lt. at_place table k f lt) refl bytes
-
-pub ascii_from_all : (xs : List ℕ) → All (λ c. c < 128) xs → IsAscii xs
-ascii_from_all [] h i = omega arith
-ascii_from_all (x ∷ xs) h zero = h 0 0 (omega arith)
-ascii_from_all (x ∷ xs) h (suc i) = ascii_from_all xs (All-tail (λ c. c < 128) x xs h) i
-
-pub encoding_all_ascii : (end : End) (table : List ℕ) (padded : Bool) (b : List ℕ) → Facts table → IsBytes b → All (λ c. c < 128) (encoding_of end table padded b)
-encoding_all_ascii end table padded b f bytes = encoding_all (λ c. c < 128) end table padded b (λ k lt. ascii_at table f.ascii k) (omega arith) bytes
-
-pub encoding_ascii : (end : End) (table : List ℕ) (padded : Bool) (b : List ℕ) → Facts table → IsBytes b → IsAscii (encoding_of end table padded b)
-encoding_ascii end table padded b f bytes = ascii_from_all (encoding_of end table padded b) (encoding_all_ascii end table padded b f bytes)
 
 -- ---- texts in lines
 
@@ -241,15 +184,6 @@ bytes_of_lines end table padded w text b f low some (last, ends, canonical) byte
     let line : IsLine (joined w text) = All-same NoBreak (joined w text) (encoding_of end table padded b) is (encoding_line end table padded b f bytes) in
     (joined w text, lines_back w text low some ends last line, is, bytes)
 
--- the last block is the encoding of the bytes that it stands for
-pub canonical_end : (end : End) (table : List ℕ) (padded : Bool) (t : List ℕ) → Facts table → 0 < length t → HasCanonicalEnd end table padded t → IsCanonicalEnd end table padded t
-canonical_end end table padded t f some (b, bytes, is) =
-    let e = canonical_loose end table padded t b f some bytes is in
-    record {
-      bytes = All-same (λ x. x < 256) (loose_bytes end table padded (drop (last_at (length t)) t)) b e bytes;
-      same = is ∙ ap (encoding_of end table padded) (sym e);
-    }
-
 -- how many items there are
 pub length-items : (end : End) (table : List ℕ) (padded : Bool) (t : List ℕ) → 0 < length t
     → length (items end table padded t) ≡ 3 * ((length t - 1) / 4) + length (loose_bytes end table padded (drop (last_at (length t)) t))
@@ -260,54 +194,6 @@ length-items end table padded t some =
     let both = length-append (block_items end table (take (last_at (length t)) t)) (map Some (loose_bytes end table padded (drop (last_at (length t)) t))) in
     let rest = length-map_some (loose_bytes end table padded (drop (last_at (length t)) t)) in
     omega arith
-
--- no text is left
-pub empty_items : (end : End) (table : List ℕ) (padded : Bool) → items end table padded [] ≡ []
-unfolding block_items bytes_of_blocks
-empty_items end table true = refl
-empty_items end table false = refl
-
--- what was written are the items
-pub decoded_items : (end : End) (table : List ℕ) (padded : Bool) (t dst tail new buf : List ℕ) (k : ℕ) → 0 < length t → length dst ≡ length (items end table padded t)
-    → all_in table (take (4 * ((length t - 1) / 4)) t) ≡ true
-    → dst ≡ bytes_of_blocks end table (take (4 * ((length t - 1) / 4)) t) ++ tail → new ≡ buf → length buf ≡ k
-    → loose_bytes end table padded (drop (last_at (length t)) t) ≡ buf
-    → items end table padded t ≡ map Some (put_mid (3 * ((length t - 1) / 4)) (3 * ((length t - 1) / 4) + k - 3 * ((length t - 1) / 4)) dst new)
-decoded_items end table padded t dst tail new buf k some long good was is len loose =
-    let q : ℕ = (length t - 1) / 4 in
-    let le : 4 * ((length t - 1) / 4) ≤ length t = omega arith in
-    let front : length (take (4 * ((length t - 1) / 4)) t) ≡ 4 * ((length t - 1) / 4) = length-take-le (4 * ((length t - 1) / 4)) t le in
-    let n = length-items end table padded t some in
-    let l = ap length loose in
-    let whole : length dst ≡ 3 * ((length t - 1) / 4) + k = omega arith in
-    let written = written_text end table t dst tail new buf ((length t - 1) / 4) k le (omega arith) was is len in
-    let same = ap length is in
-    let behind : drop (3 * ((length t - 1) / 4) + k) (put_mid (3 * ((length t - 1) / 4)) (3 * ((length t - 1) / 4) + k - 3 * ((length t - 1) / 4)) dst new) ≡ []
-    = drop-put_mid (3 * ((length t - 1) / 4)) (3 * ((length t - 1) / 4) + k - 3 * ((length t - 1) / 4)) dst new (3 * ((length t - 1) / 4) + k) (omega arith) (omega arith) (omega arith)
-    ∙ drop_all (3 * ((length t - 1) / 4) + k) dst (omega arith) in
-    let all : take (3 * ((length t - 1) / 4) + k) (put_mid (3 * ((length t - 1) / 4)) (3 * ((length t - 1) / 4) + k - 3 * ((length t - 1) / 4)) dst new)
-    ≡ put_mid (3 * ((length t - 1) / 4)) (3 * ((length t - 1) / 4) + k - 3 * ((length t - 1) / 4)) dst new
-    = sym (append-nil _) ∙ ap (λ xs. take (3 * ((length t - 1) / 4) + k) (put_mid (3 * ((length t - 1) / 4)) (3 * ((length t - 1) / 4) + k - 3 * ((length t - 1) / 4)) dst new) ++ xs) (sym behind)
-    ∙ take-append-drop (3 * ((length t - 1) / 4) + k) (put_mid (3 * ((length t - 1) / 4)) (3 * ((length t - 1) / 4) + k - 3 * ((length t - 1) / 4)) dst new) in
-    ap (λ xs. xs ++ map Some (loose_bytes end table padded (drop (last_at (length t)) t))) (block_items-good end table (take (4 * ((length t - 1) / 4)) t) (omega arith) good)
-    ∙ ap (λ xs. map Some (bytes_of_blocks end table (take (4 * ((length t - 1) / 4)) t)) ++ map Some xs) loose
-    ∙ map-append (bytes_of_blocks end table (take (4 * ((length t - 1) / 4)) t)) buf
-    ∙ ap (map Some) (sym written ∙ all)
-
--- lines of an encoding are refused for no reason
-pub no_wrap_error : (end : End) (table : List ℕ) (padded : Bool) (w : ℕ) (text b : List ℕ) (e : Error) → Facts table → 4 ≤ w → IsWrappedText end table padded w text b
-    → IsWrapError end table padded w text e → ⊥
-no_wrap_error end table padded w text b InvalidEncoding f low wrapped h = h.2 ((of_bytes end table padded w text b f (omega arith) wrapped).accepted)
-no_wrap_error end table padded w text b InvalidLength f low wrapped h =
-    let some = (of_bytes end table padded w text b f (omega arith) wrapped).some in
-    elim h [ inl few ↦ omega arith | inr none ↦ omega arith ]
-no_wrap_error end table padded w text b OutOfMemory f low wrapped h = h
-
-pub no_wrapped_bytes : (end : End) (table : List ℕ) (padded : Bool) (w : ℕ) (text b : List ℕ) (e : Error) → Facts table → e ≡ InvalidEncoding → IsWrapError end table padded w text e
-    → IsWrappedText end table padded w text b → ⊥
-no_wrapped_bytes end table padded w text b InvalidEncoding f is h wrapped = no_wrap_error end table padded w text b InvalidEncoding f h.0 wrapped h
-no_wrapped_bytes end table padded w text b InvalidLength f is h wrapped = cc
-no_wrapped_bytes end table padded w text b OutOfMemory f is h wrapped = cc
 
 -- what stood before
 pub front_of : (old rest : List ℕ) (start n : ℕ) → start ≡ length old → start ≤ n → take start (take n old ++ rest) ≡ old
@@ -321,54 +207,3 @@ pub appended : (items old out post rest : List ℕ) (start n : ℕ) → take sta
 appended items old out post rest start n front none behind is =
     let l = length-append old out in
     rw (behind, none, front, append-nil, append-nil) (take_all n (old ++ out) (omega arith))
-
--- an empty text has a canonical end
-pub empty_end : (end : End) (table : List ℕ) (padded : Bool) → IsCanonicalEnd end table padded []
-unfolding bytes_of_blocks characters
-empty_end end table true = record { bytes = All-nil (λ x. x < 256); same = refl }
-empty_end end table false = record { bytes = All-nil (λ x. x < 256); same = refl }
-
-pub some_text : (end : End) (table : List ℕ) (padded : Bool) (t : List ℕ) → (length (items end table padded t) ≡ 0 → ⊥) → 0 < length t
-some_text end table padded [] h = absurd (h (ap length (empty_items end table padded)))
-some_text end table padded (x ∷ t) h = omega arith
-
--- ---- refusals of whole texts
-
--- a padded encoding has whole blocks
-pub whole_blocks : (end : End) (table t b : List ℕ) → t ≡ encoding_of end table true b → length t % 4 ≡ 0
-whole_blocks end table t b is =
-    let l = ap length is in
-    let e = length-encoding_of end table b true in
-    omega arith
-
-decoded_len_le : (u n : ℕ) → u ≤ n → decoded_len u ≤ decoded_len n
-decoded_len_le u n le = omega arith
-
-unpadded_le : (padded : Bool) (t : List ℕ) → unpadded_len padded t ≤ length t
-unpadded_le false t = omega arith
-unpadded_le true t = omega arith
-
--- with room for every text of this length
-pub vec_error : (end : End) (table : List ℕ) (padded : Bool) (t : List ℕ) (space : ℕ) (e : Error) → space ≡ decoded_len (length t)
-    → IsDecodeError end table padded t space e → IsDecodeVecError end table padded t e
-vec_error end table true t space InvalidEncoding is h = elim h [
-  | inl p ↦ λ b bytes text. p.1 (whole_blocks end table t b text)
-  | inr p ↦ p.2
-]
-vec_error end table false t space InvalidEncoding is h = elim h [
-  | inl p ↦ absurd (let e = p.0 in cc)
-  | inr p ↦ p.2
-]
-vec_error end table padded t space InvalidLength is h =
-    let le = decoded_len_le (unpadded_len padded t) (length t) (unpadded_le padded t) in
-    let lt = h.1 in
-    omega arith
-vec_error end table padded t space OutOfMemory is h = absurd h
-
-pub no_text : (t : List ℕ) → length t ≡ 0 → t ≡ []
-no_text [] h = refl
-no_text (x ∷ t) h = absurd (omega arith)
-
-pub no_blocks_text : (end : End) (table : List ℕ) (padded : Bool) (t b : List ℕ) → padded ≡ true → (length t % 4 ≡ 0 → ⊥) → t ≡ encoding_of end table padded b → ⊥
-no_blocks_text end table true t b is ne text = ne (whole_blocks end table t b text)
-no_blocks_text end table false t b is ne text = cc

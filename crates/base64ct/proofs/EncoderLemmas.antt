@@ -5,11 +5,11 @@ use Rattle.std.proofs.Math.Seq.{drop-append-add, take-append-add}
 use borrow.Rule.Slice.PartMut.{post_of, put_mid}
 use Rattle.base64_alphabet.specs.Encoding.{characters, encoding_of}
 use Rattle.base64_alphabet.specs.Group.{End}
-use Rattle.base64ct.specs.Counts.{encoded_len}
+use Rattle.base64_text.specs.Counts.{encoded_len}
 use Rattle.base64ct.specs.Encoder.{whole_groups}
-use Rattle.base64ct.proofs.EncodingLemmas.{empty_encoding}
-use Rattle.base64ct.proofs.Texts.{characters-append}
-use Rattle.base64ct.proofs.WholeLemmas.{encoding_of-append}
+use Rattle.base64_text.proofs.EncodingLemmas.{empty_encoding}
+use Rattle.base64_text.proofs.Texts.{characters-append}
+use Rattle.base64_text.proofs.WholeLemmas.{encoding_of-append}
 
 -- a write to the end leaves nothing behind it
 post_none : (a k : ℕ) (xs : List ℕ) → length xs ≤ a + k → post_of a k xs ≡ []

@@ -3,13 +3,13 @@ use Rattle.std.proofs.Common.{◌≡◌, ℕ, suc, ◌+◌, ◌-◌, ◌*◌, �
 use Rattle.std.proofs.lemmas.List.{take-append-drop, length-drop}
 use Rattle.base64_alphabet.specs.Encoding.{bytes_of_blocks, characters, encoding_of}
 use Rattle.base64_alphabet.specs.Group.{End, High, Low, bytes_of, characters_of}
-use Rattle.base64ct.specs.Canonical.{IsBytes, loose_bytes}
+use Rattle.base64_text.specs.Canonical.{IsBytes, loose_bytes}
 use Rattle.base64ct.specs.Items.{block_items, items}
 use Rattle.base64_alphabet.proofs.TableLemmas.{Facts}
-use Rattle.base64ct.proofs.Algebra.{bytes_back, number_of_its_digits}
-use Rattle.base64ct.proofs.Texts.{digits_at, in_four}
-use Rattle.base64ct.proofs.LastLemmas.{IsLast, is_last}
-use Rattle.base64ct.proofs.WholeLemmas.{halves}
+use Rattle.base64_text.proofs.Algebra.{bytes_back, number_of_its_digits}
+use Rattle.base64_text.proofs.Texts.{digits_at, in_four}
+use Rattle.base64_text.proofs.LastLemmas.{is_last, last_loose}
+use Rattle.base64_text.proofs.WholeLemmas.{halves}
 
 -- a group's characters give its three items
 group_items : (end : End) (table : List ℕ) (a b c : ℕ) (rest : List ℕ) → Facts table → a < 256 → b < 256 → c < 256
@@ -42,19 +42,6 @@ front_items end table (x ∷ y ∷ []) f bytes whole = absurd (omega arith)
 front_items end table (x ∷ y ∷ z ∷ b) f bytes whole =
     group_items end table x y z (characters end table b) f (bytes 0 0 (omega arith)) (bytes 1 0 (omega arith)) (bytes 2 0 (omega arith))
     ∙ ap (λ xs. Some x ∷ Some y ∷ Some z ∷ xs) (front_items end table b f (λ k d lt. bytes (suc (suc (suc k))) d (omega arith)) (omega arith))
-
--- a last block's loose_bytes bytes
-pub last_loose : (end : End) (table : List ℕ) (padded : Bool) (last b : List ℕ) → IsLast end table padded last b → loose_bytes end table padded last ≡ b
-unfolding bytes_of_blocks
-last_loose end table padded last [] l = absurd (let s = l.some in omega arith)
-last_loose end table padded [] (x ∷ b) l = absurd (let s = l.two in omega arith)
-last_loose end table padded (p ∷ []) (x ∷ b) l = absurd (let s = l.two in omega arith)
-last_loose end table padded (p ∷ q ∷ t) (x ∷ []) l = rw (l.len, append-nil (bytes_of end table p q 65 65)) l.bytes
-last_loose end table padded (p ∷ q ∷ []) (x ∷ y ∷ b) l = absurd (let s = l.len in grind arith)
-last_loose end table padded (p ∷ q ∷ r ∷ t) (x ∷ y ∷ []) l = rw (l.len, append-nil (bytes_of end table p q r 65)) l.bytes
-last_loose end table padded (p ∷ q ∷ r ∷ []) (x ∷ y ∷ z ∷ b) l = absurd (let s = l.len in grind arith)
-last_loose end table padded (p ∷ q ∷ r ∷ s ∷ t) (x ∷ y ∷ z ∷ []) l = rw (l.len, append-nil (bytes_of end table p q r s)) l.bytes
-last_loose end table padded last (x ∷ y ∷ z ∷ w ∷ b) l = absurd (let s = l.few in omega arith)
 
 pub map-append : (xs ys : List ℕ) → map {A = ℕ} {B = Option ℕ} Some xs ++ map Some ys ≡ map Some (xs ++ ys)
 map-append [] ys = refl

@@ -4,16 +4,16 @@ use Rattle.std.proofs.lemmas.Bool.{cases_Bool, eqb-true, both_ways, ltb-true, lt
 use Rattle.std.proofs.lemmas.List.{take-append-drop, length-take-le}
 use Rattle.std.proofs.lemmas.List.Elements.{All-cons, All-head, All-tail}
 use Rattle.base64ct.specs.Lines.{Lines, Last, More, IsEnding, Cr, Lf, Crlf, IsLine, is_line_break, joined, joined_within, has_endings, has_endings_within, ends_in_ending, starts_with_ending, after_ending, after_lf}
-use Rattle.base64ct.specs.Walk.{joined_from, has_endings_from, ends_from}
+use Rattle.base64ct.specs.Walk.{joined_from, has_endings_from}
 
-pred_suc : (n : ℕ) → suc n - 1 ≡ n
+pub pred_suc : (n : ℕ) → suc n - 1 ≡ n
 pred_suc n = omega arith
 
-suc_ne : (n : ℕ) → (suc n == 0) ≡ false
+pub suc_ne : (n : ℕ) → (suc n == 0) ≡ false
 suc_ne n = search rules
 
 -- a last line stays
-walk_last : (w n : ℕ) (line : List ℕ) → length line ≤ n → joined_from w n false line ≡ line
+pub walk_last : (w n : ℕ) (line : List ℕ) → length line ≤ n → joined_from w n false line ≡ line
 walk_last w n [] le = refl
 walk_last w zero (c ∷ line) le = absurd (omega arith)
 walk_last w (suc n) (c ∷ line) le = rw (suc_ne n, pred_suc n) (ap (λ xs. c ∷ xs) (walk_last w n line (omega arith)))
@@ -25,7 +25,7 @@ walk_full w (suc n) [] text e = absurd (omega arith)
 walk_full w zero (c ∷ line) text e = absurd (omega arith)
 walk_full w (suc n) (c ∷ line) text e = rw (suc_ne n, pred_suc n) (ap (λ xs. c ∷ xs) (walk_full w n line text (omega arith)))
 
-ends_last : (w n : ℕ) (line : List ℕ) → length line ≤ n → has_endings_from w n false line ≡ true
+pub ends_last : (w n : ℕ) (line : List ℕ) → length line ≤ n → has_endings_from w n false line ≡ true
 ends_last w n [] le = refl
 ends_last w zero (c ∷ line) le = absurd (omega arith)
 ends_last w (suc n) (c ∷ line) le = rw (suc_ne n, pred_suc n) (ends_last w n line (omega arith))
@@ -109,14 +109,6 @@ walked w text t low (More line ending rest u is full end lines) =
       some = (let e = length-append (line ++ ending) rest in let s = r.some in omega arith);
     }
 
-pub ends_from_front : (before : Bool) (c : ℕ) (text : List ℕ) → ends_from before (c ∷ text) ≡ ends_in_ending (c ∷ text)
-ends_from_front before c [] = refl
-ends_from_front before c (d ∷ text) = ends_from_front ((c == 13) || (c == 10)) d text
-
-pub ends_from_start : (text : List ℕ) → ends_from false text ≡ ends_in_ending text
-ends_from_start [] = refl
-ends_from_start (c ∷ text) = ends_from_front false c text
-
 -- a text that isn't empty gives a character
 pub joined_some : (w : ℕ) (text : List ℕ) → 0 < w → 0 < length text → 0 < length (joined_from w w false text)
 joined_some zero text low some = absurd (omega arith)
@@ -126,7 +118,7 @@ joined_some (suc w) (c ∷ text) low some = rw (suc_ne w) (omega arith)
 -- ---- the pieces and the walk
 
 -- the walk over what stands after a full line
-joined_after : (w : ℕ) (text : List ℕ) → starts_with_ending text ≡ true → joined_from w 0 false text ≡ joined_from w w false (after_ending text)
+pub joined_after : (w : ℕ) (text : List ℕ) → starts_with_ending text ≡ true → joined_from w 0 false text ≡ joined_from w w false (after_ending text)
 joined_after w [] h = absurd (cc)
 joined_after w (c ∷ []) h = elim (cases_Bool (c == 13)) [
   | inl e ↦ rw e refl
@@ -137,7 +129,7 @@ joined_after w (c ∷ d ∷ text) h = elim (cases_Bool (c == 13)) [
   | inr e ↦ rw (e, rw e at h) refl
 ]
 
-ends_after : (w : ℕ) (text : List ℕ) → 0 < length text → has_endings_from w 0 false text ≡ (starts_with_ending text && has_endings_from w w false (after_ending text))
+pub ends_after : (w : ℕ) (text : List ℕ) → 0 < length text → has_endings_from w 0 false text ≡ (starts_with_ending text && has_endings_from w w false (after_ending text))
 ends_after w [] some = absurd (omega arith)
 ends_after w (c ∷ []) some = elim (cases_Bool (c == 13)) [
   | inl e ↦ rw e refl
@@ -152,7 +144,7 @@ after_lf_short : (text : List ℕ) → length (after_lf text) ≤ length text
 after_lf_short [] = omega arith
 after_lf_short (c ∷ text) = elim (cases_Bool (c == 10)) [ inl e ↦ rw e (omega arith) | inr e ↦ rw e (omega arith) ]
 
-after_short : (text : List ℕ) → length (after_ending text) ≤ length text
+pub after_short : (text : List ℕ) → length (after_ending text) ≤ length text
 after_short [] = omega arith
 after_short (c ∷ text) = elim (cases_Bool (c == 13)) [
   | inl e ↦ rw e (let l = after_lf_short text in omega arith)

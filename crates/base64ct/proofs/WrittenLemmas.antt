@@ -8,8 +8,8 @@ use borrow.Rule.Slice.PartMut.{put_mid}
 use Rattle.base64_alphabet.specs.Encoding.{bytes_of_blocks, characters, encoding_of}
 use Rattle.base64_alphabet.specs.Group.{End}
 use Rattle.base64_alphabet.proofs.TableLemmas.{Facts}
-use Rattle.base64ct.specs.Canonical.{IsBytes}
-use Rattle.base64ct.specs.Counts.{encoded_len}
+use Rattle.base64_text.specs.Canonical.{IsBytes}
+use Rattle.base64_text.specs.Counts.{encoded_len}
 use Rattle.base64ct.specs.Encoder.{Progress, in_lines, in_lines_len, whole_groups}
 use Rattle.base64ct.specs.LineWrapper.{HasLines, IsWide, advanced, in_lines_from, left_from, lines_of, wrapped_from}
 use Rattle.base64ct.specs.Lines.{IsLine}
@@ -18,11 +18,11 @@ use Rattle.base64ct.specs.Wrapping.{ending_bytes}
 use Rattle.base64ct.specs.declared.line_ending.LineEnding.{LineEnding}
 use Rattle.base64ct.specs.declared.line_ending.LineEnding.TheVariants.{CR, LF, CRLF}
 use Rattle.base64ct.specs.declared.wrapping.LineWrapper.{LineWrapper}
-use Rattle.base64ct.proofs.DecoderLemmas.{ascii_from_all, encoding_all_ascii, encoding_line}
+use Rattle.base64ct.proofs.DecoderLemmas.{encoding_line}
 use Rattle.base64ct.proofs.EncoderLemmas.{whole_encoding, whole_len}
-use Rattle.base64ct.proofs.EncodingLemmas.{len_split, length-encoding_of}
-use Rattle.base64ct.proofs.Texts.{bytes_of_blocks_characters, characters-append}
-use Rattle.base64ct.proofs.WholeLemmas.{encoding_of-append, length-characters}
+use Rattle.base64_text.proofs.EncodingLemmas.{ascii_from_all, encoding_all_ascii, len_split, length-encoding_of}
+use Rattle.base64_text.proofs.Texts.{bytes_of_blocks_characters, characters-append}
+use Rattle.base64_text.proofs.WholeLemmas.{encoding_of-append, length-characters}
 use Rattle.base64ct.proofs.WrappingLemmas.{joined-wrapped, left_from-append, length-wrapped, length-wrapped_from, wrapped-empty, wrapped-walk, wrapped_from-append}
 
 -- ---- a text in an encoder's lines

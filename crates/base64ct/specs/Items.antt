@@ -3,11 +3,11 @@ use Rattle.std.specs.Prelude.{◌≡◌, ℕ, ◌+◌, ◌<◌, ◌≤◌, ◌^�
 use Rattle.base64_alphabet.specs.Table.{all_in}
 use Rattle.base64_alphabet.specs.Group.{End, bytes_of}
 use Rattle.base64_alphabet.specs.Encoding.{encoding_of}
-use Rattle.base64ct.specs.Canonical.{IsBytes, loose_bytes}
-use Rattle.base64ct.specs.LastBlock.{last_at, HasCanonicalEnd}
+use Rattle.base64_text.specs.Canonical.{IsBytes, loose_bytes}
+use Rattle.base64_text.specs.LastBlock.{last_at, HasCanonicalEnd}
 use Rattle.base64ct.specs.Lines.{joined, has_endings, ends_in_ending}
-use Rattle.base64ct.specs.declared.errors.Error.{Error}
-use Rattle.base64ct.specs.declared.errors.Error.TheVariants.{InvalidEncoding, InvalidLength, OutOfMemory}
+use Rattle.base64_text.specs.declared.errors.Error.{Error}
+use Rattle.base64_text.specs.declared.errors.Error.TheVariants.{InvalidEncoding, InvalidLength, OutOfMemory}
 
 -- the items of whole blocks: three bytes for each, or three bad items where a character isn't in the table
 unfoldable pub block_items : End → List ℕ → List ℕ → List (Option ℕ)
@@ -17,11 +17,6 @@ block_items end table _ = []
 -- the items of a text: those of its blocks before the last, and the bytes of the last
 abbrev pub items : End → List ℕ → Bool → List ℕ → List (Option ℕ)
 items end table padded t = block_items end table (take (last_at (length t)) t) ++ map Some (loose_bytes end table padded (drop (last_at (length t)) t))
-
--- the last block of a text is the encoding of the bytes that it stands for
-pub record IsCanonicalEnd (end : End) (table : List ℕ) (padded : Bool) (t : List ℕ) : Type 0 where
-  pub bytes : IsBytes (loose_bytes end table padded (drop (last_at (length t)) t))
-  pub same : drop (last_at (length t)) t ≡ encoding_of end table padded (loose_bytes end table padded (drop (last_at (length t)) t))
 
 -- each line that is cut off has its ending, none follows the last, and the last block of the lines joined
 -- is canonical
@@ -39,3 +34,26 @@ abbrev pub IsAppendError : List (Option ℕ) → ℕ → Error → Type 0
 IsAppendError left n InvalidLength = 2 ^ 64 ≤ length left + n
 IsAppendError left n InvalidEncoding = (length left + n < 2 ^ 64) × Contains left None
 IsAppendError left n OutOfMemory = length left + n < 2 ^ 64
+
+-- why `new` refuses a text, behind which an ending was dropped
+abbrev pub IsNewError : End → List ℕ → Bool → List ℕ → Error → Type 0
+IsNewError end table padded text InvalidLength = length text ≡ 0
+IsNewError end table padded text InvalidEncoding = (0 < length text) × (HasCanonicalEnd end table padded text → ⊥)
+IsNewError end table padded text OutOfMemory = ⊥
+
+-- why n bytes are not taken from what is left
+abbrev pub IsTakeError : List (Option ℕ) → ℕ → Error → Type 0
+IsTakeError left n InvalidLength = length left < n
+IsTakeError left n InvalidEncoding = (n ≤ length left) × Contains (take n left) None
+IsTakeError left n OutOfMemory = ⊥
+
+-- a byte before some that are known
+abbrev pub with_first : ℕ → Option (List ℕ) → Option (List ℕ)
+with_first x None = None
+with_first x (Some xs) = Some (x ∷ xs)
+
+-- the bytes of items, where none is bad
+abbrev pub known_bytes : List (Option ℕ) → Option (List ℕ)
+known_bytes [] = Some []
+known_bytes (None ∷ left) = None
+known_bytes (Some x ∷ left) = with_first x (known_bytes left)

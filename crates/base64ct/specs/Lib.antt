@@ -1,10 +1,13 @@
-pub mod Errors
-pub mod Canonical
+pub use Rattle.base64_alphabet.specs.Encoding
+pub use Rattle.base64_alphabet.specs.Group
+pub use Rattle.base64_alphabet.specs.Table
+pub use Rattle.base64_text.specs.Canonical
+pub use Rattle.base64_text.specs.Counts
+pub use Rattle.base64_text.specs.Errors
+pub use Rattle.base64_text.specs.LastBlock
 pub mod Lines
-pub mod LastBlock
 pub mod Items
 pub mod Walk
-pub mod Counts
 pub mod Wrapping
 pub mod LineWrapper
 pub mod Encoder

@@ -1,8 +1,8 @@
 -- Texts in lines (after the line endings of RFC 7468 section 2).
-use Rattle.std.specs.Prelude.{◌≡◌, ℕ, zero, suc, ◌<◌, ◌≤◌, nat_lt, Bool, true, false, ◌==◌, ◌&&◌, ◌||◌, if◌then◌else◌, List, [], ◌∷◌, ◌++◌, length, take, drop, All}
+use Rattle.std.specs.Prelude.{◌≡◌, ℕ, zero, suc, ◌<◌, ◌≤◌, nat_lt, Bool, true, false, ◌==◌, ◌&&◌, ◌||◌, if◌then◌else◌, List, [], ◌∷◌, ◌++◌, ◌-◌, length, slice_index, take, drop, All}
 use Rattle.base64_alphabet.specs.Group.{End}
 use Rattle.base64_alphabet.specs.Encoding.{encoding_of}
-use Rattle.base64ct.specs.Canonical.{IsBytes}
+use Rattle.base64_text.specs.Canonical.{IsBytes}
 
 -- CR, LF or CRLF
 pub data IsEnding : List ℕ → Type 0 where
@@ -37,6 +37,15 @@ abbrev pub ends_in_ending : List ℕ → Bool
 ends_in_ending [] = false
 ends_in_ending (c ∷ []) = is_line_break c
 ends_in_ending (c ∷ d ∷ text) = ends_in_ending (d ∷ text)
+
+-- the length of the CR, LF or CRLF that a text ends in, and 0 where it ends in none
+abbrev pub final_ending_len : List ℕ → ℕ
+final_ending_len text = if nat_lt 1 (length text) && ((slice_index text (length text - 2) == 13) && (slice_index text (length text - 1) == 10)) then 2
+    else if nat_lt 0 (length text) && is_line_break (slice_index text (length text - 1)) then 1 else 0
+
+-- a text without the CR, LF or CRLF that it ends in
+abbrev pub trimmed : List ℕ → List ℕ
+trimmed text = take (length text - final_ending_len text) text
 
 -- a text behind the LF that it may start with
 abbrev pub after_lf : List ℕ → List ℕ

@@ -2,7 +2,7 @@
 use Rattle.std.specs.Prelude.{◌≡◌, ℕ, ◌*◌, ◌/◌, ◌%◌, ◌≤◌, List, ◌++◌, length, take, Option, Some, None}
 use Rattle.base64_alphabet.specs.Group.{End}
 use Rattle.base64_alphabet.specs.Encoding.{characters, bytes_of_blocks}
-use Rattle.base64ct.specs.Canonical.{IsBytes}
+use Rattle.base64_text.specs.Canonical.{IsBytes}
 use Rattle.base64ct.specs.Lines.{joined}
 use Rattle.base64ct.specs.Encoder.{in_lines}
 use Rattle.base64ct.specs.LineWrapper.{HasLines, lines_of}

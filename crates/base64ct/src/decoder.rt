@@ -1,45 +1,65 @@
 //! Decoding of texts in lines.
 #![tactic(auto)]
 
-ghost use Rattle.std.specs.Prelude.{◌≡◌, ℕ, ◌≤◌, ◌<◌, ◌+◌, ◌*◌, ◌^◌, ◌++◌, ◌⊎◌, ◌↔◌, map, length, vec_len, Some, None, Contains, OnOk, OnErr, IfOk, IfErr, IsOkAnd, [], List, true, false};
-ghost use Rattle.base64ct.specs.Canonical.{IsBytes};
-ghost use Rattle.base64ct.specs.LastBlock.{HasCanonicalEnd};
-ghost use Rattle.base64ct.specs.Lines.{joined, IsWrappedText};
-ghost use Rattle.base64ct.specs.Items.{items, IsCanonicalEnd, IsWrapped, IsWrapError, IsAppendError};
+ghost use Rattle.std.specs.Prelude.{◌≡◌, ℕ, ◌≤◌, ◌<◌, ◌+◌, ◌-◌, ◌*◌, ◌^◌, ◌++◌, ◌⊎◌, ◌↔◌, map, length, vec_len, take, Some, min, None, Contains, Ok, OnOk, OnErr, IfOk, IfErr, IsOk, IsOkAnd, [], List, true, false};
+ghost use Rattle.std.specs.Io.{ReadsAtMost};
+ghost use Rattle.std.specs.Io.KnownBytes.{Consumes, ReadConsumes};
+ghost use Rattle.std.specs.IoError.{error_kind};
+ghost use Rattle.std.specs.declared.io.ErrorKind.TheVariants.{InvalidData};
+ghost use Rattle.base64_text.specs.Canonical.{IsBytes};
+ghost use Rattle.base64_text.specs.LastBlock.{HasCanonicalEnd};
+ghost use Rattle.base64ct.specs.Lines.{has_endings, joined, trimmed, IsWrappedText};
+ghost use Rattle.base64ct.specs.Items.{items, IsWrapped, IsNewError, IsWrapError, IsAppendError, IsTakeError, known_bytes};
 
-use crate::decode_text::decode_front;
-use crate::encoding::Encoding;
-use crate::errors::Error;
-use crate::last_block::{decode_last, known};
-use crate::lines::{ends_in_break, join, scan};
-use base64_alphabet::Alphabet;
+use crate::left::{Left, begin, take_items};
+use crate::lines::{ends_in_break, trim_break};
+use base64_text::{Encoding, Error, known};
+use std::io;
 use std::marker::{Model, PhantomData};
 
-/// Decodes a text in lines, such as the body of a PEM document. It borrows the text, and is seen as the
-/// list of what is left: for each byte to come its value, or `None` where its block of four characters has
-/// one that isn't in the table.
+/// The least width of a line.
+const MIN_LINE_WIDTH: usize = 4;
+
+/// Decodes a text, or one in lines such as the body of a PEM document, piece by piece. It borrows the text,
+/// and is seen as the list of what is left: for each byte to come its value, or `None` where its block of
+/// four characters has one that isn't in the table.
 #[derive(Clone, Drop)]
 pub struct Decoder<'i, E: Encoding> {
-    text: &'i [u8],
-    width: usize,
+    left: Left<'i>,
     remaining: usize,
     encoding: PhantomData<E>,
 }
 
 impl<'i, E: Encoding> Model for Decoder<'i, E> {
-    ghost use Rattle.std.specs.Prelude.{List, Option, ℕ, ◌≡◌, ◌<◌, length, true};
-    ghost use Rattle.base64ct.specs.Lines.{joined, has_endings};
-    ghost use Rattle.base64ct.specs.Items.{items, IsCanonicalEnd};
+    ghost use Rattle.std.specs.Prelude.{List, Option, ℕ, ◌≡◌, length};
+    ghost use Rattle.base64ct.specs.Walk.{IsLeft, items_left};
 
     ghost Value = { List (Option ℕ) };
 
-    ghost view = { λ d. items E.end E.table E.PADDED (joined d.width d.text.now) };
+    ghost view = { λ d. items_left E.end E.table d.left };
 
-    ghost invariant = { λ d. (d.remaining ≡ length (items E.end E.table E.PADDED (joined d.width d.text.now)))
-        × (0 < d.width) × (has_endings d.width d.text.now ≡ true) × IsCanonicalEnd E.end E.table E.PADDED (joined d.width d.text.now) };
+    ghost invariant = { λ d. (d.remaining ≡ length (items_left E.end E.table d.left)) × IsLeft d.left };
 }
 
 impl<'i, E: Encoding> Decoder<'i, E> {
+    /// A decoder of a text without lines, of which a final CR, LF or CRLF is dropped. The last block is checked
+    /// here, the others when they are decoded.
+    ///
+    /// `InvalidLength` tells that nothing remains; `InvalidEncoding` that the last block is no canonical
+    /// encoding.
+    pub fn new(input: &'i [u8]) -> Result<Self, Error>
+        ensures items { IfOk result (λ d. d ≡ items E.end E.table E.PADDED (trimmed input.now)) }
+        ensures accepted { IfOk result (λ _. HasCanonicalEnd E.end E.table E.PADDED (trimmed input.now)) }
+        ensures some { IfOk result (λ _. 0 < length (trimmed input.now)) }
+        ensures err { IfErr result (IsNewError E.end E.table E.PADDED (trimmed input.now)) }
+    {
+        let text = trim_break(input);
+        if text.is_empty() {
+            return Err(Error::InvalidLength);
+        }
+        Self::start(text, text.len().max(MIN_LINE_WIDTH))
+    }
+
     /// A decoder of a text in lines of `line_width` characters, of which the last may be shorter, parted by
     /// CR, LF or CRLF. The last block is checked here, the others when they are decoded.
     ///
@@ -61,10 +81,30 @@ impl<'i, E: Encoding> Decoder<'i, E> {
         ensures no_bytes { result ≡ Err Error.InvalidEncoding
             → (b : List ℕ) → IsWrappedText E.end E.table E.PADDED line_width input.now b → ⊥ }
     {
-        match check_wrapped::<E>(input, line_width) {
-            Ok(remaining) => Ok(Decoder {
-                text: input,
-                width: line_width,
+        if line_width < MIN_LINE_WIDTH {
+            return Err(Error::InvalidLength);
+        }
+        if input.is_empty() {
+            return Err(Error::InvalidLength);
+        }
+        if ends_in_break(input) {
+            return Err(Error::InvalidEncoding);
+        }
+        Self::start(input, line_width)
+    }
+
+    fn start(text: &'i [u8], width: usize) -> Result<Self, Error>
+        requires width { 4 ≤ width }
+        requires some { 0 < length text.now }
+        ensures items { IfOk result (λ d. d ≡ items E.end E.table E.PADDED (joined width text.now)) }
+        ensures endings { IfOk result (λ _. has_endings width text.now ≡ true) }
+        ensures canonical { IfOk result (λ _. HasCanonicalEnd E.end E.table E.PADDED (joined width text.now)) }
+        ensures err { IfErr result (λ error. (error ≡ Error.InvalidEncoding) × (has_endings width text.now ≡ true
+            → HasCanonicalEnd E.end E.table E.PADDED (joined width text.now) → ⊥)) }
+    {
+        match begin::<E>(text, width) {
+            Ok((left, remaining)) => Ok(Decoder {
+                left,
                 remaining,
                 encoding: PhantomData,
             }),
@@ -79,6 +119,46 @@ impl<'i, E: Encoding> Decoder<'i, E> {
         self.remaining
     }
 
+    /// Whether no byte is still to come.
+    pub fn is_finished(&self) -> bool
+        ensures { (result ≡ true) ↔ (self.now ≡ []) }
+    {
+        self.remaining == 0
+    }
+
+    /// Decodes the next bytes, as many as the output has. `InvalidLength` tells that fewer are left,
+    /// `InvalidEncoding` that a block that they need is bad.
+    pub fn decode<'o>(&mut self, out: &'o mut [u8]) -> Result<&'o [u8], Error>
+        ensures bytes { IfOk result (λ bytes. self.old ≡ map Some bytes.now ++ self.new) }
+        ensures filled { IfOk result (λ bytes. length bytes.now ≡ length out.old) }
+        ensures err { IfErr result (IsTakeError self.old (length out.old)) }
+        ensures same { OnErr result (self.new ≡ self.old) }
+    {
+        match self.fill(out) {
+            Ok(()) => Ok(out),
+            Err(error) => Err(error),
+        }
+    }
+
+    // `decode`, with what the output ends as.
+    fn fill(&mut self, out: &mut [u8]) -> Result<(), Error>
+        ensures items { OnOk result (self.old ≡ map Some out.new ++ self.new) }
+        ensures bytes { OnOk result (IsBytes out.new) }
+        ensures err { IfErr result (IsTakeError self.old (length out.old)) }
+        ensures same { OnErr result (self.new ≡ self.old) }
+    {
+        if self.remaining < out.len() {
+            return Err(Error::InvalidLength);
+        }
+        let Some(left) = take_items::<E>(self.left, out) else {
+            return Err(Error::InvalidEncoding);
+        };
+        known(out);
+        self.left = left;
+        self.remaining -= out.len();
+        Ok(())
+    }
+
     /// Appends all that is left, and answers how many bytes it appended. After a refusal the decoder and the
     /// vector are as they were.
     pub fn append_to(&mut self, buf: &mut Vec<u8>) -> Result<usize, Error>
@@ -91,22 +171,18 @@ impl<'i, E: Encoding> Decoder<'i, E> {
         ensures same_bytes { OnErr result (buf.new.items ≡ buf.old.items) }
     {
         let start = buf.len();
-        let Some(end) = start.checked_add(self.remaining) else {
+        let count = self.remaining;
+        let Some(end) = start.checked_add(count) else {
             return Err(Error::InvalidLength);
         };
-        if self.remaining == 0 {
-            return Ok(0);
-        }
-        let mut text = Vec::new(*buf.allocator());
-        join(self.text, self.width, &mut text)?;
         buf.resize(end, 0)?;
-        if !decode_joined::<E>(&text, &mut buf[start..]) {
-            buf.truncate(start);
-            return Err(Error::InvalidEncoding);
+        match self.fill(&mut buf[start..]) {
+            Ok(()) => Ok(count),
+            Err(error) => {
+                buf.truncate(start);
+                Err(error)
+            }
         }
-        self.text = &self.text[..0];
-        self.remaining = 0;
-        Ok(end - start)
     }
 
     /// Appends all that is left, and answers the appended part. A caller that wants the vector too takes
@@ -126,57 +202,32 @@ impl<'i, E: Encoding> Decoder<'i, E> {
     }
 }
 
-// What `new_wrapped` tests, and how many bytes the text has.
-fn check_wrapped<E: Alphabet>(input: &[u8], width: usize) -> Result<usize, Error>
-    ensures width { IfOk result (λ _. 4 ≤ width) }
-    ensures some { IfOk result (λ _. 0 < length input.now) }
-    ensures ok { IfOk result (λ n. IsWrapped E.end E.table E.PADDED width input.now) }
-    ensures len { IfOk result (λ n. n ≡ length (items E.end E.table E.PADDED (joined width input.now))) }
-    ensures err { IfErr result (IsWrapError E.end E.table E.PADDED width input.now) }
-{
-    if width < 4 {
-        return Err(Error::InvalidLength);
-    }
-    if input.is_empty() {
-        return Err(Error::InvalidLength);
-    }
-    if ends_in_break(input) {
-        return Err(Error::InvalidEncoding);
-    }
-    let walk = scan(input, width);
-    if !walk.good {
-        return Err(Error::InvalidEncoding);
-    }
-    if walk.count == 0 {
-        return Err(Error::InvalidEncoding);
-    }
-    let blocks = (walk.count - 1) / 4;
-    let mut out = [0u8; 3];
-    match decode_last::<E>(&walk.block[..walk.count - 4 * blocks], &mut out) {
-        Some(k) => Ok(3 * blocks + k),
-        None => Err(Error::InvalidEncoding),
-    }
-}
+/// A refusal has the kind `InvalidData`, and changes nothing.
+impl<'i, E: Encoding> io::Read for Decoder<'i, E> {
+    ghost remaining = { known_bytes };
 
-// Decodes the joined lines, and answers whether each block is in the table.
-fn decode_joined<E: Alphabet>(text: &[u8], out: &mut [u8]) -> bool
-    requires some { 0 < length text.now }
-    requires canonical { IsCanonicalEnd E.end E.table E.PADDED text.now }
-    requires room { length out.old ≡ length (items E.end E.table E.PADDED text.now) }
-    ensures yes { result ≡ true → items E.end E.table E.PADDED text.now ≡ map Some out.new }
-    ensures bytes { result ≡ true → IsBytes out.new }
-    ensures no { result ≡ false → Contains (items E.end E.table E.PADDED text.now) None }
-{
-    let at = 4 * ((text.len() - 1) / 4);
-    let size = 3 * ((text.len() - 1) / 4);
-    let mut bytes = [0u8; 3];
-    let Some(k) = decode_last::<E>(&text[at..], &mut bytes) else {
-        return false;
-    };
-    if !decode_front::<E>(&text[..at], out) {
-        return false;
+    fn read(&mut self, buf: &mut [u8]) -> io::Result<usize>
+        ensures bound { ReadsAtMost result buf.new }
+        ensures bytes { ReadConsumes (known_bytes self.old) (known_bytes self.new) result buf.new }
+        ensures count { IfOk result (λ n. n ≡ min (length buf.old) (length self.old)) }
+        ensures items { IfOk result (λ n. self.old ≡ map Some (take n buf.new) ++ self.new) }
+        ensures kind { IfErr result (λ e. error_kind e ≡ InvalidData) }
+        ensures err { OnErr result (Contains (take (length buf.old) self.old) None) }
+        ensures same { OnErr result (self.new ≡ self.old) }
+    {
+        let n = buf.len().min(self.remaining);
+        self.fill(&mut buf[..n])?;
+        Ok(n)
     }
-    out[size..size + k].copy_from_slice(&bytes[..k]);
-    known(out);
-    true
+
+    fn read_exact(&mut self, buf: &mut [u8]) -> io::Result<()>
+        ensures bytes { OnOk result (Consumes (known_bytes self.old) (known_bytes self.new) buf.new) }
+        ensures items { OnOk result (self.old ≡ map Some buf.new ++ self.new) }
+        ensures kind { IfErr result (λ e. error_kind e ≡ InvalidData) }
+        ensures err { OnErr result ((length self.old < length buf.old) ⊎ Contains (take (length buf.old) self.old) None) }
+        ensures same { OnErr result (self.new ≡ self.old) }
+    {
+        self.fill(buf)?;
+        Ok(())
+    }
 }

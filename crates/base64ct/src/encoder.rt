@@ -7,17 +7,14 @@ ghost use Rattle.std.specs.Io.KnownBytes.{Keeps, WriteAppends};
 ghost use Rattle.std.specs.IoError.{error_kind};
 ghost use Rattle.std.specs.declared.io.ErrorKind.TheVariants.{InvalidData};
 ghost use Rattle.base64_alphabet.specs.Encoding.{characters, encoding_of};
-ghost use Rattle.base64ct.specs.Canonical.{IsBytes};
-ghost use Rattle.base64ct.specs.Counts.{encoded_len};
+ghost use Rattle.base64_text.specs.Canonical.{IsBytes};
+ghost use Rattle.base64_text.specs.Counts.{encoded_len};
 ghost use Rattle.base64ct.specs.Encoder.{in_lines, in_lines_len, whole_groups};
 ghost use Rattle.base64ct.specs.LineWrapper.{HasLines, IsWide, advanced, in_lines_from, lines_of};
 
-use crate::encode_text::{ascii_text, encode_front};
-use crate::encoding::Encoding;
-use crate::errors::Error;
-use crate::last_block::known;
 use crate::line_ending::LineEnding;
 use crate::wrapping::{LineWrapper, part_lines, wrapped_len};
+use base64_text::{Encoding, Error, ascii_text, encode_front, known};
 use std::io;
 use std::marker::{Model, PhantomData};
 

@@ -2,26 +2,16 @@
 //! by `Encoding`, and texts in lines (as in RFC 7468) by `Encoder` and `Decoder`.
 #![tactic(auto)]
 
-mod count_laws;
-mod decode_text;
 mod decoder;
-mod encode_text;
 mod encoder;
-mod encoding;
-mod errors;
-mod in_place;
-mod last_block;
+mod left;
 mod line_ending;
 mod line_laws;
 mod lines;
-mod loose;
 mod wrapping;
 
-pub use crate::count_laws::unclean_texts_take_one_count;
 pub use crate::decoder::Decoder;
 pub use crate::encoder::Encoder;
-pub use crate::encoding::Encoding;
-pub use crate::errors::{Error, InvalidEncodingError, InvalidLengthError};
 pub use crate::line_ending::LineEnding;
 pub use crate::line_laws::{
     lines_have_one_join, text_has_one_value, wrapped_encoding_is_read_back, wrapped_text_is_lines,
@@ -30,5 +20,8 @@ pub use crate::line_laws::{
 pub use crate::wrapping::wrapped_len;
 pub use base64_alphabet::{
     Alphabet, Base64, Base64ShaCrypt, Base64Unpadded, DecodeStep, EncodeStep, Steps, Unpad, lanes,
+};
+pub use base64_text::{
+    Encoding, Error, InvalidEncodingError, InvalidLengthError, unclean_texts_take_one_count,
 };
 pub use base64_alphabets::{Base64Bcrypt, Base64Crypt, Base64Pbkdf2, Base64Url, Base64UrlUnpadded};

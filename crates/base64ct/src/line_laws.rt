@@ -3,7 +3,7 @@
 
 ghost use Rattle.std.specs.Prelude.{◌≡◌, ◌<◌, List, ℕ, length};
 ghost use Rattle.base64_alphabet.specs.Encoding.{encoding_of};
-ghost use Rattle.base64ct.specs.Canonical.{IsBytes};
+ghost use Rattle.base64_text.specs.Canonical.{IsBytes};
 ghost use Rattle.base64ct.specs.Lines.{IsLine, IsWrappedText, Lines};
 ghost use Rattle.base64ct.specs.Wrapping.{wrapped};
 ghost use Rattle.base64ct.specs.declared.line_ending.LineEnding.{LineEnding};

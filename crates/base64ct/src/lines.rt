@@ -1,112 +1,145 @@
 //! Texts in lines.
 #![tactic(auto)]
 
-ghost use Rattle.std.specs.Prelude.{◌≡◌, ℕ, ◌-◌, ◌<◌, ◌≤◌, ◌^◌, length, take, drop, List, Bool, ◌+◌, ◌++◌, ◌∷◌, [], ◌==◌, ◌||◌, false, OnOk};
-ghost use Rattle.base64ct.specs.Lines.{ends_in_ending, is_line_break};
-ghost use Rattle.base64ct.specs.Walk.{IsTail, IsWalk, joined_from, has_endings_from};
+ghost use Rattle.std.specs.Prelude.{◌≡◌, ℕ, ◌-◌, ◌<◌, ◌≤◌, ◌∷◌, ◌++◌, List, [], length, take, drop, IfSome, IfNone, true, false};
+ghost use Rattle.base64ct.specs.Lines.{after_ending, ends_in_ending, is_line_break, starts_with_ending, trimmed};
+ghost use Rattle.base64ct.specs.Walk.{IsCut, IsReader, characters_left, has_endings_from};
 
-use std::alloc::AllocError;
-
-/// What a walk over a text saw: the lines joined, of which it keeps nothing but the number of characters
-/// and the last block.
+/// Where the reading of a text in lines stands: what was not read, and how many characters the line may
+/// still have.
 #[derive(Clone, Copy, Debug)]
-pub(crate) struct Walk {
+pub(crate) struct LineReader<'i> {
+    pub text: &'i [u8],
     pub width: usize,
     pub left: usize,
-    pub after: bool,
-    pub good: bool,
+}
+
+/// A text of which full lines were cut off: how many characters they have, the last of them, and what
+/// stands behind its ending.
+#[derive(Clone, Copy, Debug)]
+pub(crate) struct Cut<'i> {
     pub count: usize,
-    pub block: [u8; 4],
+    pub line: &'i [u8],
+    pub rest: &'i [u8],
 }
 
-/// Walks over a text in lines.
-pub(crate) fn scan(text: &[u8], width: usize) -> Walk
-    ensures { IsWalk result (joined_from width width false text.now) (has_endings_from width width false text.now) [] }
+/// Stands at the start of a line where one ended.
+pub(crate) fn settled<'i>(reader: LineReader<'i>) -> LineReader<'i>
+    requires { IsReader reader }
+    ensures reader { IsReader result }
+    ensures same { characters_left result ≡ characters_left reader.entry }
+    ensures some { 0 < length (characters_left reader.entry) → (0 < result.left) × (0 < length result.text.now) }
 {
-    let mut walk = Walk {
-        width,
-        left: width,
-        after: false,
-        good: true,
+    if reader.left > 0 {
+        return reader;
+    }
+    match behind_break(reader.text) {
+        Some(text) => LineReader {
+            text,
+            left: reader.width,
+            ..reader
+        },
+        None => reader,
+    }
+}
+
+/// Passes characters of the line that is begun.
+pub(crate) fn passed<'i>(reader: LineReader<'i>, k: usize) -> LineReader<'i>
+    requires reader { IsReader reader }
+    requires line { k ≤ reader.left }
+    requires text { k ≤ length reader.text.now }
+    ensures reader { IsReader result }
+    ensures characters { characters_left reader.entry ≡ take k reader.entry.text.now ++ characters_left result }
+{
+    LineReader {
+        text: &reader.text[k..],
+        left: reader.left - k,
+        ..reader
+    }
+}
+
+/// Reads a block of four characters, which may lie across two lines.
+pub(crate) fn next_block<'i>(reader: LineReader<'i>) -> ([u8; 4], LineReader<'i>)
+    requires reader { IsReader reader }
+    requires four { 4 ≤ length (characters_left reader) }
+    ensures reader { IsReader result.1 }
+    ensures characters { characters_left reader.entry ≡ result.0 ++ characters_left result.1 }
+    ensures long { length result.0 ≡ 4 }
+{
+    let (a, reader) = next_character(reader);
+    let (b, reader) = next_character(reader);
+    let (c, reader) = next_character(reader);
+    let (d, reader) = next_character(reader);
+    ([a, b, c, d], reader)
+}
+
+fn next_character<'i>(reader: LineReader<'i>) -> (u8, LineReader<'i>)
+    requires reader { IsReader reader }
+    requires some { 0 < length (characters_left reader) }
+    ensures reader { IsReader result.1 }
+    ensures characters { characters_left reader.entry ≡ result.0 ∷ characters_left result.1 }
+{
+    let reader = settled(reader);
+    (reader.text[0], passed(reader, 1))
+}
+
+/// Cuts the full lines off a text, up to its last line. `None` tells that one has no ending.
+pub(crate) fn cut_lines<'i>(text: &'i [u8], width: usize) -> Option<Cut<'i>>
+    requires { 0 < width }
+    ensures some { IfSome result (λ cut. IsCut width cut.count text.now cut.line.now cut.rest.now) }
+    ensures last { IfSome result (λ cut. length cut.rest.now ≤ width) }
+    ensures none { IfNone result (has_endings_from width width false text.now ≡ false) }
+{
+    let mut cut = Cut {
         count: 0,
-        block: [0; 4],
+        line: &text[..0],
+        rest: text,
     };
-    for c in text {
-        walk = step(walk, *c);
-    }
-    walk
-}
-
-// Walks over one character.
-fn step(walk: Walk, c: u8) -> Walk
-    requires { walk.count + 1 < 2 ^ 64 }
-    ensures walks { (lines : List ℕ) (ends : Bool) (rest : List ℕ) →
-        IsWalk walk lines ends (c ∷ rest) → IsWalk result lines ends rest }
-    ensures count { result.count ≤ walk.count + 1 }
-{
-    if walk.after && c == b'\n' {
-        return Walk {
-            after: false,
-            ..walk
+    while width < cut.rest.len() {
+        let (line, behind) = cut.rest.split_at(width);
+        let Some(rest) = behind_break(behind) else {
+            return None;
         };
+        let count = cut.count + width;
+        cut = Cut { count, line, rest };
     }
-    if walk.left == 0 {
-        let ending = is_break(c);
-        return Walk {
-            left: walk.width,
-            after: c == b'\r',
-            good: walk.good & ending,
-            ..walk
-        };
-    }
-    let mut block = walk.block;
-    keep(walk.count, &mut block, c);
-    Walk {
-        left: walk.left - 1,
-        after: false,
-        count: walk.count + 1,
-        block,
-        ..walk
-    }
+    Some(cut)
 }
 
-// Keeps one more character in the last block.
-fn keep(count: usize, block: &mut [u8; 4], c: u8)
-    ensures { (p : List ℕ) → IsTail count block.old p → IsTail (count + 1) block.new (p ++ c ∷ []) }
+/// What stands behind the CR, LF or CRLF that a text starts with.
+fn behind_break(text: &[u8]) -> Option<&[u8]>
+    ensures some { IfSome result (λ rest. (starts_with_ending text.now ≡ true) × (rest.now ≡ after_ending text.now)) }
+    ensures none { IfNone result (starts_with_ending text.now ≡ false) }
 {
-    block[count % 4] = c;
-}
-
-/// Appends the lines of a text, joined.
-pub(crate) fn join(text: &[u8], width: usize, buf: &mut Vec<u8>) -> Result<(), AllocError>
-    ensures { OnOk result (buf.new.items ≡ buf.old.items ++ joined_from width width false text.now) }
-{
-    let mut left = width;
-    let mut after = false;
-    for c in text {
-        if after && *c == b'\n' {
-            after = false;
-        } else if left == 0 {
-            left = width;
-            after = *c == b'\r';
-        } else {
-            buf.push(*c)?;
-            left -= 1;
-            after = false;
-        }
+    match text {
+        [b'\r', b'\n', rest @ ..] => Some(rest),
+        [b'\r' | b'\n', rest @ ..] => Some(rest),
+        _ => None,
     }
-    Ok(())
 }
 
 /// Whether a text ends in CR or LF.
 pub(crate) fn ends_in_break(text: &[u8]) -> bool
     ensures { result ≡ ends_in_ending text.now }
 {
-    let mut ending = false;
-    for c in text {
-        ending = is_break(*c);
+    if text.is_empty() {
+        return false;
     }
-    ending
+    is_break(text[text.len() - 1])
+}
+
+/// A text without the CR, LF or CRLF that it ends in.
+pub(crate) fn trim_break(text: &[u8]) -> &[u8]
+    ensures { result.now ≡ trimmed text.now }
+{
+    let n = text.len();
+    if n > 1 && text[n - 2] == b'\r' && text[n - 1] == b'\n' {
+        return &text[..n - 2];
+    }
+    if n > 0 && is_break(text[n - 1]) {
+        return &text[..n - 1];
+    }
+    text
 }
 
 // CR or LF.

@@ -3,8 +3,8 @@ use Rattle.std.proofs.Common.{◌≡◌, ℕ, ◌+◌, ◌<◌, ◌^◌, true, L
 use Rattle.base64_alphabet.specs.Group.{High}
 use Rattle.base64_alphabet.specs.Standard.{standard}
 use Rattle.base64ct.specs.Items.{IsAppendError, IsWrapError}
-use Rattle.base64ct.specs.declared.errors.Error.{Error}
-use Rattle.base64ct.specs.declared.errors.Error.TheVariants as base64
+use Rattle.base64_text.specs.declared.errors.Error.{Error}
+use Rattle.base64_text.specs.declared.errors.Error.TheVariants as base64
 use Rattle.identity_update.specs.Reading.{HasLength, IsTextRefusal, WritesBytes}
 use Rattle.identity_update.specs.UpdateError.{text_error}
 

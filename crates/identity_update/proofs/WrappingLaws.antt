@@ -12,10 +12,10 @@ use Rattle.base64ct.specs.Canonical.{IsBytes}
 use Rattle.base64ct.specs.Encoder.{whole_groups}
 use Rattle.base64ct.specs.Lines.{IsWrappedText}
 use Rattle.base64ct.specs.Wrapping.{ending_bytes, line_count, wrapped, wrapped_len}
-use Rattle.base64ct.specs.declared.errors.Error.{Error}
+use Rattle.base64_text.specs.declared.errors.Error.{Error}
 use Rattle.base64ct.specs.declared.line_ending.LineEnding.{LineEnding}
 use Rattle.base64ct.specs.declared.line_ending.LineEnding.TheVariants.{CR, CRLF, LF}
-use Rattle.base64ct.proofs.EncodingLemmas.{encoding_some, length-encoding_of}
+use Rattle.base64_text.proofs.EncodingLemmas.{encoding_some, length-encoding_of}
 use Rattle.base64ct.proofs.WrappingLemmas.{ending_count, length-wrapped}
 use Rattle.der_core.specs.Laws.{length_encode}
 use Rattle.update_document.specs.Spelling.{document_content}

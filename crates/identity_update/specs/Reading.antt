@@ -3,7 +3,7 @@ use Rattle.std.specs.Prelude.{◌≡◌, ℕ, ◌<◌, ◌≤◌, true, List, le
 use Rattle.base64_alphabet.specs.Group.{High}
 use Rattle.base64_alphabet.specs.Standard.{standard}
 use Rattle.base64ct.specs.Lines.{IsWrappedText}
-use Rattle.base64ct.specs.declared.errors.Error.TheVariants as base64
+use Rattle.base64_text.specs.declared.errors.Error.TheVariants as base64
 use Rattle.der_core.specs.Decode.{NoFront, Trails}
 use Rattle.der_core.specs.declared.error.Error.{Error}
 use Rattle.der_core.specs.declared.error.Error.TheVariants as der

@@ -4,8 +4,8 @@ use Rattle.base64_alphabet.specs.Encoding.{encoding_of}
 use Rattle.base64_alphabet.specs.Group.{High}
 use Rattle.base64_alphabet.specs.Standard.{standard}
 use Rattle.base64ct.specs.Wrapping.{wrapped}
-use Rattle.base64ct.specs.declared.errors.Error.{Error}
-use Rattle.base64ct.specs.declared.errors.Error.TheVariants.{InvalidEncoding, InvalidLength, OutOfMemory}
+use Rattle.base64_text.specs.declared.errors.Error.{Error}
+use Rattle.base64_text.specs.declared.errors.Error.TheVariants.{InvalidEncoding, InvalidLength, OutOfMemory}
 use Rattle.base64ct.specs.declared.line_ending.LineEnding.{LineEnding}
 use Rattle.identity_update.specs.Canonical.{update_der}
 use Rattle.identity_update.specs.Parts.{UpdateParts}

@@ -2,7 +2,7 @@ use Rattle.std.proofs.Common.{refl}
 use Rattle.base64_alphabet.specs.Encoding.{encoding_of}
 use Rattle.base64_alphabet.proofs.TableLemmas.{facts}
 use Rattle.base64ct.proofs.DecoderLemmas.{encoding_line}
-use Rattle.base64ct.proofs.EncodingLemmas.{encoding_some}
+use Rattle.base64_text.proofs.EncodingLemmas.{encoding_some}
 use Rattle.base64ct.proofs.WrappingLemmas.{wrapped_lines}
 use Rattle.base64ct.proofs.line_laws.wrapped_encoding_is_read_back.Goals as goal
 

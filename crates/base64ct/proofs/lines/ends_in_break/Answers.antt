@@ -1,5 +1,8 @@
-use Rattle.base64ct.proofs.LinesLemmas.{ends_from_start}
+use Rattle.std.proofs.Common.{◌≡◌, ℕ, zero, suc, ◌+◌, ◌-◌, ◌*◌, ◌/◌, ◌%◌, ◌<◌, ◌≤◌, Bool, true, false, ◌&&◌, List, [], ◌∷◌, ◌++◌, length, take, drop, arith, rules, refl, ap, sym, ◌∙◌, map, append-nil, Option, Some, None, Contains, inl, inr, length-append, length-drop, subst}
+use Rattle.base64ct.proofs.ReaderLemmas.{last_ending}
 use Rattle.base64ct.proofs.lines.ends_in_break.Goals as goal
 
-pub loop-c-init : goal.loop-c-init
-loop-c-init c = ends_from_start c.args.text.now
+pub returns : goal.returns
+returns c =
+    let some : 0 < length c.args.text.now = search rules in
+    c.is_break.ensures ∙ sym (last_ending c.args.text.now some)

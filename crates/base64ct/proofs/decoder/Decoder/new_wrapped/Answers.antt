@@ -1,35 +1,42 @@
-use Rattle.std.proofs.Common.{◌<◌, ◌≤◌, length, arith}
+use Rattle.std.proofs.Common.{◌≡◌, ℕ, zero, suc, ◌+◌, ◌-◌, ◌*◌, ◌/◌, ◌%◌, ◌<◌, ◌≤◌, Bool, true, false, ◌&&◌, List, [], ◌∷◌, ◌++◌, length, take, drop, arith, rules, refl, ap, sym, ◌∙◌, map, append-nil, Option, Some, None, Contains, inl, inr, length-append, length-drop, subst}
+use Rattle.std.proofs.lemmas.Bool.{both_ways}
 use Rattle.base64_alphabet.proofs.TableLemmas.{facts}
-use Rattle.base64ct.specs.Lines.{joined}
-use Rattle.base64ct.proofs.DecoderLemmas.{canonical_end, some_joined, of_bytes, bytes_of_lines, no_wrap_error, no_wrapped_bytes}
+use Rattle.base64_text.specs.declared.errors.Error.TheVariants.{InvalidEncoding}
+use Rattle.base64ct.specs.Lines.{ends_in_ending}
+use Rattle.base64ct.proofs.BeginLemmas.{err_at, ok_both, ok_then, ok_when}
+use Rattle.base64ct.proofs.DecoderLemmas.{bytes_of_lines, of_bytes}
 use Rattle.base64ct.proofs.decoder.Decoder.new_wrapped.Goals as goal
 
-pub invariant_of-result : goal.invariant_of-result
-invariant_of-result g c =
-    let width : 4 ≤ c.args.line_width = c.in-Ok.ensures.width in
-    let some : 0 < length c.args.input.now = c.in-Ok.ensures.some in
-    let ok = c.in-Ok.ensures.ok in (
-      c.in-Ok.ensures.len,
-      omega arith,
-      ok.1,
-      canonical_end g.E.Alphabet.end g.E.Alphabet.table g.E.Alphabet.PADDED (joined c.args.line_width c.args.input.now) (facts g.E.Alphabet.table g.met.E.Alphabet.lawful)
-          (some_joined c.args.line_width c.args.input.now (omega arith) some ok.1) ok.2,
-    )
+pub returns-then-ends_in_break-clause-bytes : goal.returns-then-ends_in_break-clause-bytes
+returns-then-ends_in_break-clause-bytes g c b low wrapped =
+    let of = of_bytes g.E.Alphabet.end g.E.Alphabet.table g.E.Alphabet.PADDED c.args.line_width c.args.input.now b (facts g.E.Alphabet.table g.met.E.Alphabet.lawful) (omega arith) wrapped in
+    let accepted = of.accepted in
+    both_ways (ends_in_ending c.args.input.now) accepted.0 (sym c.ends_in_break.ensures ∙ c.if-ends_in_break.true)
 
-pub returns-in-Ok-clause-bytes : goal.returns-in-Ok-clause-bytes
-returns-in-Ok-clause-bytes g c b low wrapped =
-    (of_bytes g.E.Alphabet.end g.E.Alphabet.table g.E.Alphabet.PADDED c.args.line_width c.args.input.now b (facts g.E.Alphabet.table g.met.E.Alphabet.lawful) (omega arith) wrapped).items
+pub returns-then-ends_in_break-clause-no_bytes : goal.returns-then-ends_in_break-clause-no_bytes
+returns-then-ends_in_break-clause-no_bytes g c is b wrapped =
+    let wide = c.if-line_width-lt-MIN_LINE_WIDTH.false in
+    let of = of_bytes g.E.Alphabet.end g.E.Alphabet.table g.E.Alphabet.PADDED c.args.line_width c.args.input.now b (facts g.E.Alphabet.table g.met.E.Alphabet.lawful) (omega arith) wrapped in
+    let accepted = of.accepted in
+    both_ways (ends_in_ending c.args.input.now) accepted.0 (sym c.ends_in_break.ensures ∙ c.if-ends_in_break.true)
 
-pub returns-in-Ok-clause-text : goal.returns-in-Ok-clause-text
-returns-in-Ok-clause-text g c b bytes is =
-    let width : 4 ≤ c.args.line_width = c.in-Ok.ensures.width in
-    bytes_of_lines g.E.Alphabet.end g.E.Alphabet.table g.E.Alphabet.PADDED c.args.line_width c.args.input.now b (facts g.E.Alphabet.table g.met.E.Alphabet.lawful) (omega arith)
-    c.in-Ok.ensures.some c.in-Ok.ensures.ok bytes is
+pub returns-clause-bytes : goal.returns-clause-bytes
+returns-clause-bytes g c b low wrapped =
+    let of = of_bytes g.E.Alphabet.end g.E.Alphabet.table g.E.Alphabet.PADDED c.args.line_width c.args.input.now b (facts g.E.Alphabet.table g.met.E.Alphabet.lawful) (omega arith) wrapped in
+    let accepted = of.accepted in
+    ok_when _ _ _ c.start.result c.start.ensures.items c.start.ensures.err (λ d e. e ∙ of.items) (λ e h. h.1 accepted.1 accepted.2)
 
-pub returns-in-Err-clause-bytes : goal.returns-in-Err-clause-bytes
-returns-in-Err-clause-bytes g c b low wrapped =
-    no_wrap_error g.E.Alphabet.end g.E.Alphabet.table g.E.Alphabet.PADDED c.args.line_width c.args.input.now b c.in-Err.error (facts g.E.Alphabet.table g.met.E.Alphabet.lawful) low wrapped c.in-Err.ensures.err
+pub returns-clause-text : goal.returns-clause-text
+returns-clause-text g c =
+    let wide = c.if-line_width-lt-MIN_LINE_WIDTH.false in
+    let some : 0 < length c.args.input.now = search rules in
+    ok_then _ _ c.start.result (ok_both _ _ c.start.result c.start.ensures.items (ok_both _ _ c.start.result c.start.ensures.endings c.start.ensures.canonical)) (λ d h b bytes is.
+        bytes_of_lines g.E.Alphabet.end g.E.Alphabet.table g.E.Alphabet.PADDED c.args.line_width c.args.input.now b (facts g.E.Alphabet.table g.met.E.Alphabet.lawful) (omega arith) some
+        (sym c.ends_in_break.ensures ∙ c.if-ends_in_break.false, h.1.0, h.1.1) bytes (sym h.0 ∙ is))
 
-pub returns-in-Err-clause-no_bytes : goal.returns-in-Err-clause-no_bytes
-returns-in-Err-clause-no_bytes g c is b wrapped =
-    no_wrapped_bytes g.E.Alphabet.end g.E.Alphabet.table g.E.Alphabet.PADDED c.args.line_width c.args.input.now b c.in-Err.error (facts g.E.Alphabet.table g.met.E.Alphabet.lawful) (cc) c.in-Err.ensures.err wrapped
+pub returns-clause-no_bytes : goal.returns-clause-no_bytes
+returns-clause-no_bytes g c is b wrapped =
+    let wide = c.if-line_width-lt-MIN_LINE_WIDTH.false in
+    let of = of_bytes g.E.Alphabet.end g.E.Alphabet.table g.E.Alphabet.PADDED c.args.line_width c.args.input.now b (facts g.E.Alphabet.table g.met.E.Alphabet.lawful) (omega arith) wrapped in
+    let accepted = of.accepted in
+    (err_at _ c.start.result InvalidEncoding is c.start.ensures.err).1 accepted.1 accepted.2

@@ -1,6 +1,6 @@
 use Rattle.std.proofs.Common.{arith, ◌≡◌, ℕ, Bool, ◌+◌, ◌-◌, ◌*◌, ◌/◌, ◌%◌, true, false, refl, sym, ◌∙◌, ap, subst, IsAscii}
 use Rattle.base64_alphabet.proofs.TableLemmas.{facts}
-use Rattle.base64ct.specs.Counts.{encoded_len}
+use Rattle.base64_text.specs.Counts.{encoded_len}
 use Rattle.base64ct.specs.Encoder.{in_lines_len}
 use Rattle.base64ct.specs.LineWrapper.{lines_of}
 use Rattle.base64ct.specs.Written.{taken_of}

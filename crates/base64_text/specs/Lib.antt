@@ -1,0 +1,4 @@
+pub mod Errors
+pub mod Canonical
+pub mod LastBlock
+pub mod Counts

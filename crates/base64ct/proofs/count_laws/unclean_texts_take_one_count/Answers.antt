@@ -1,8 +1,0 @@
-use Rattle.std.proofs.Common.{ap, sym, ◌∙◌}
-use Rattle.base64ct.specs.Counts.{loose_count}
-use Rattle.base64ct.proofs.CountLemmas.{count_unclean}
-use Rattle.base64ct.proofs.count_laws.unclean_texts_take_one_count.Goals as goal
-
-pub returns : goal.returns
-returns g c = λ t u x y same.
-    count_unclean g.E.Alphabet.table g.E.Alphabet.PADDED t x ∙ ap loose_count same ∙ sym (count_unclean g.E.Alphabet.table g.E.Alphabet.PADDED u y)

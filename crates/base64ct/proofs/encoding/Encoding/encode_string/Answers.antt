@@ -1,6 +1,0 @@
-use Rattle.std.proofs.Common.{string_bytes}
-use Rattle.base64ct.proofs.EncodingLemmas.{length-of_text}
-use Rattle.base64ct.proofs.encoding.Encoding.encode_string.Goals as goal
-
-pub returns-clause-len : goal.returns-clause-len
-returns-clause-len g c = length-of_text string_bytes g.Self.Alphabet.end g.Self.Alphabet.table c.args.input.now g.Self.Alphabet.PADDED c.encode_to_string.result c.encode_to_string.ensures.ok
