@@ -8,6 +8,3 @@ mod selecting;
 
 pub use program::run_program;
 pub use selecting::select;
-
-#[cfg(test)]
-mod tests;
