@@ -120,7 +120,10 @@ fn refused_calls_change_nothing(rt: HostRuntime) {
     }
     let mut bytes = Vec::new(rt.alloc());
     bytes.push(9).expect(&rt, "memory");
-    assert_eq!(rt; decoder.decode_to_end(&mut bytes), Err(Error::InvalidEncoding));
+    assert_eq!(rt;
+        decoder.decode_to_end(&mut bytes),
+        Err(Error::InvalidEncoding)
+    );
     assert_eq!(rt; bytes.as_slice(), [9u8].as_slice());
     assert_eq!(rt; decoder.remaining_len(), 6);
 }

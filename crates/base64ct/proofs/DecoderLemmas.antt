@@ -1,26 +1,22 @@
 -- What a decoder has left, and the bytes of its text.
-use Rattle.std.proofs.Common.{◌≡◌, ℕ, zero, suc, ◌+◌, ◌-◌, ◌*◌, ◌/◌, ◌%◌, ◌<◌, ◌≤◌, Bool, true, false, ◌&&◌, ◌==◌, List, [], ◌∷◌, ◌++◌, length, slice_index, take, drop, arith, refl, ap, sym, ◌∙◌, map, append-nil, Option, Some, None, if◌then◌else◌, replicate, All, Contains, inl, inr, IsAscii, length-append, length-drop}
+use Rattle.std.proofs.Common.{◌≡◌, ℕ, zero, suc, ◌+◌, ◌-◌, ◌*◌, ◌/◌, ◌%◌, ◌<◌, ◌≤◌, Bool, true, false, ◌&&◌, ◌==◌, List, [], ◌∷◌, ◌++◌, length, slice_index, take, drop, arith, refl, ap, sym, ◌∙◌, map, append-nil, Option, Some, None, Contains, inl, inr, length-append, length-drop}
 use Rattle.std.proofs.lemmas.Bool.{cases_Bool, both_ways, eqb-true, and_parts}
-use Rattle.std.proofs.lemmas.List.{take-append-drop, length-take-le, take_all, take_at, drop_all}
-use Rattle.std.proofs.lemmas.Slice.{drop-put_mid}
-use borrow.Rule.Slice.PartMut.{put_mid}
-use Rattle.std.proofs.lemmas.List.Elements.{All-cons, All-append, All-nil, Contains-append_left, Contains-append_right, All-replicate, All-take, All-same, All-tail}
+use Rattle.std.proofs.lemmas.List.{length-take-le, take_all, take_at}
+use Rattle.std.proofs.lemmas.List.Elements.{Contains-append_left, Contains-append_right, All-same}
 use Rattle.base64_alphabet.specs.Table.{all_in, is_in}
-use Rattle.base64_alphabet.specs.Group.{End, High, Low, bytes_of, characters_of}
-use Rattle.base64_alphabet.specs.Encoding.{characters, encoding_of, bytes_of_blocks, padding_len}
-use Rattle.base64_alphabet.proofs.TableLemmas.{Facts, ascii_at}
-use Rattle.base64_text.specs.Canonical.{IsBytes, decoded_len, unpadded_len, IsDecodeError, IsDecodeVecError, loose_bytes}
+use Rattle.base64_alphabet.specs.Group.{End, High, Low, bytes_of}
+use Rattle.base64_alphabet.specs.Encoding.{encoding_of, bytes_of_blocks}
+use Rattle.base64_alphabet.proofs.TableLemmas.{Facts}
+use Rattle.base64_text.specs.Canonical.{IsBytes, loose_bytes}
 use Rattle.base64_text.specs.LastBlock.{last_at, HasCanonicalEnd}
 use Rattle.base64ct.specs.Items.{block_items, items, IsWrapped}
-use Rattle.base64_text.specs.declared.errors.Error.{Error}
-use Rattle.base64_text.specs.declared.errors.Error.TheVariants.{InvalidEncoding, InvalidLength, OutOfMemory}
 use Rattle.base64ct.specs.Lines.{IsLine, is_line_break, joined, has_endings, IsWrappedText}
 use Rattle.base64_text.proofs.Algebra.{is_in_at}
 use Rattle.base64ct.proofs.LinesLemmas.{lines_are, joined-walk, joined_some, lines_back}
-use Rattle.base64_text.proofs.EncodingLemmas.{length-encoding_of, empty_value, encoding_all}
+use Rattle.base64_text.proofs.EncodingLemmas.{empty_value, encoding_all}
 use Rattle.base64_text.proofs.LastLemmas.{is_last, last_loose}
 use Rattle.base64ct.proofs.ItemsLemmas.{map-append, encoding_items}
-use Rattle.base64_text.proofs.WholeLemmas.{whole_text, halves, written_text}
+use Rattle.base64_text.proofs.WholeLemmas.{whole_text, halves}
 
 -- lists of good items
 pub map_some_back : (xs ys : List ℕ) → map {A = ℕ} {B = Option ℕ} Some xs ≡ map Some ys → xs ≡ ys

@@ -1,8 +1,8 @@
 -- The items of an encoding are its bytes.
-use Rattle.std.proofs.Common.{◌≡◌, ℕ, suc, ◌+◌, ◌-◌, ◌*◌, ◌/◌, ◌%◌, ◌<◌, Bool, List, [], ◌∷◌, ◌++◌, length, take, drop, arith, refl, ap, ◌∙◌, map, append-nil, Option, Some}
+use Rattle.std.proofs.Common.{◌≡◌, ℕ, suc, ◌+◌, ◌-◌, ◌*◌, ◌/◌, ◌%◌, ◌<◌, Bool, List, [], ◌∷◌, ◌++◌, length, take, drop, arith, refl, ap, ◌∙◌, map, Option, Some}
 use Rattle.std.proofs.lemmas.List.{take-append-drop, length-drop}
-use Rattle.base64_alphabet.specs.Encoding.{bytes_of_blocks, characters, encoding_of}
-use Rattle.base64_alphabet.specs.Group.{End, High, Low, bytes_of, characters_of}
+use Rattle.base64_alphabet.specs.Encoding.{characters, encoding_of}
+use Rattle.base64_alphabet.specs.Group.{End, High, Low, characters_of}
 use Rattle.base64_text.specs.Canonical.{IsBytes, loose_bytes}
 use Rattle.base64ct.specs.Items.{block_items, items}
 use Rattle.base64_alphabet.proofs.TableLemmas.{Facts}

@@ -1,13 +1,11 @@
 -- What a decoder has left, piece by piece.
-use Rattle.std.proofs.Common.{◌≡◌, ℕ, zero, suc, ◌+◌, ◌-◌, ◌*◌, ◌/◌, ◌%◌, ◌<◌, ◌≤◌, Bool, true, false, ◌&&◌, List, [], ◌∷◌, ◌++◌, length, take, drop, arith, refl, ap, sym, ◌∙◌, map, append-nil, append_assoc, Option, Some, None, if◌then◌else◌, Contains, IfNone, inl, inr, length-append, length-drop, subst}
-use Rattle.std.proofs.lemmas.Bool.{cases_Bool, and_parts}
-use Rattle.std.proofs.lemmas.List.{take-append-drop, length-take-le, take_all, take_at, drop_all, drop_at, drop-drop, take-take, drop-take}
+use Rattle.std.proofs.Common.{◌≡◌, ℕ, zero, suc, ◌+◌, ◌-◌, ◌*◌, ◌%◌, ◌<◌, ◌≤◌, true, false, List, [], ◌∷◌, ◌++◌, length, take, drop, arith, refl, ap, sym, ◌∙◌, map, append-nil, append_assoc, Option, Some, None, if◌then◌else◌, Contains, IfNone, length-append, length-drop}
+use Rattle.std.proofs.lemmas.List.{take-append-drop, length-take-le, take_at, drop_all, drop_at}
 use Rattle.std.proofs.lemmas.List.Elements.{Contains-append_left, Contains-append_right}
-use borrow.Rule.Slice.PartMut.{put_mid, post_of}
+use borrow.Rule.Slice.PartMut.{put_mid}
 use Rattle.base64_alphabet.specs.Table.{all_in}
 use Rattle.base64_alphabet.specs.Group.{End, bytes_of}
 use Rattle.base64_alphabet.specs.Encoding.{bytes_of_blocks}
-use Rattle.base64_alphabet.proofs.BlocksLemmas.{all_in-append}
 use Rattle.base64_text.proofs.LooseLemmas.{take_plus, bytes_of_blocks-append}
 use Rattle.base64_text.proofs.WholeLemmas.{length-bytes_of_blocks}
 use Rattle.base64ct.specs.Items.{block_items}
@@ -103,7 +101,7 @@ bad_blocks end table chars last b k n le fits few bad =
     let len : length (take (4 * k) chars) ≡ 4 * k = length-take-le (4 * k) chars (omega arith) in
     let l = length-block_items end table (take (4 * k) chars) (omega arith) in
     let e : block_items end table (take (4 * b) chars) ++ last
-        ≡ block_items end table (take (4 * k) chars) ++ (block_items end table (take (4 * (b - k)) (drop (4 * k) chars)) ++ last)
+    ≡ block_items end table (take (4 * k) chars) ++ (block_items end table (take (4 * (b - k)) (drop (4 * k) chars)) ++ last)
     = ap (λ us. us ++ last) (split_blocks end table chars b k le fits) ∙ append_assoc (block_items end table (take (4 * k) chars)) (block_items end table (take (4 * (b - k)) (drop (4 * k) chars))) last in
     rw e (bad_within (block_items end table (take (4 * k) chars)) (block_items end table (take (4 * (b - k)) (drop (4 * k) chars)) ++ last) n (omega arith)
     (block_items-bad end table (take (4 * k) chars) (omega arith) bad))

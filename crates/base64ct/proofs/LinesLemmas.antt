@@ -1,5 +1,5 @@
 -- Lines, the pieces of a text and the walk over it.
-use Rattle.std.proofs.Common.{◌≡◌, ℕ, zero, suc, ◌-◌, ◌<◌, ◌≤◌, Bool, true, false, ◌&&◌, ◌||◌, ◌==◌, List, [], ◌∷◌, ◌++◌, length, take, drop, arith, rules, refl, ap, sym, ◌∙◌, append_assoc, append-nil, length-append, length-drop, inl, inr, nat_lt, subst}
+use Rattle.std.proofs.Common.{◌≡◌, ℕ, zero, suc, ◌-◌, ◌<◌, ◌≤◌, Bool, true, false, ◌&&◌, ◌==◌, List, [], ◌∷◌, ◌++◌, length, take, drop, arith, rules, refl, ap, sym, ◌∙◌, append_assoc, append-nil, length-append, length-drop, inl, inr, nat_lt, subst}
 use Rattle.std.proofs.lemmas.Bool.{cases_Bool, eqb-true, both_ways, ltb-true, ltb-false, and_parts, or_parts}
 use Rattle.std.proofs.lemmas.List.{take-append-drop, length-take-le}
 use Rattle.std.proofs.lemmas.List.Elements.{All-cons, All-head, All-tail}

@@ -1,9 +1,9 @@
 -- Reading of a text in lines, and cutting it into lines.
-use Rattle.std.proofs.Common.{◌≡◌, ℕ, zero, suc, ◌+◌, ◌-◌, ◌*◌, ◌/◌, ◌<◌, ◌≤◌, Bool, true, false, ◌&&◌, ◌||◌, ◌==◌, ◌⊎◌, List, [], ◌∷◌, ◌++◌, length, slice_index, take, drop, arith, rules, refl, ap, sym, ◌∙◌, append_assoc, append-nil, length-append, length-drop, inl, inr, nat_lt, subst}
-use Rattle.std.proofs.lemmas.Bool.{cases_Bool, cases_lt, both_ways, and_parts}
-use Rattle.std.proofs.lemmas.List.{take-append-drop, length-take-le, drop-drop, drop_at, drop_all, take_all, take_at, drop-append-le}
+use Rattle.std.proofs.Common.{◌≡◌, ℕ, zero, suc, ◌+◌, ◌-◌, ◌<◌, ◌≤◌, true, false, ◌&&◌, List, [], ◌∷◌, ◌++◌, length, slice_index, take, drop, arith, refl, ap, sym, ◌∙◌, append_assoc, length-append, length-drop, inl, inr}
+use Rattle.std.proofs.lemmas.Bool.{cases_lt, both_ways, and_parts}
+use Rattle.std.proofs.lemmas.List.{length-take-le, drop-drop, drop_at, drop_all, take_at, drop-append-le}
 use borrow.Rule.Slice.PartMut.{put_mid, post_of}
-use Rattle.base64ct.specs.Lines.{is_line_break, joined, has_endings, ends_in_ending, starts_with_ending, after_ending}
+use Rattle.base64ct.specs.Lines.{is_line_break, ends_in_ending, starts_with_ending, after_ending}
 use Rattle.base64ct.specs.Walk.{joined_from, has_endings_from, IsCut}
 use Rattle.base64ct.proofs.LinesLemmas.{pred_suc, suc_ne, joined_after, ends_after, ends_last, walk_last, after_short}
 
@@ -121,9 +121,11 @@ all_cut w count text line rest wide c few =
       ends = c.ends ∙ ends_last w w rest few;
       len = len;
       last = λ n four fits. (let room : n ≤ length line + length rest = elim c.full [ inl z ↦ omega arith | inr full ↦ omega arith ] in
-          let at : count - length line + (length line + length rest - n) ≡ count + length rest - n = omega arith in
-          (room, ap (drop (length line + length rest - n)) (sym tail) ∙ drop-drop (length line + length rest - n) (count - length line) (joined_from w w false text)
-          ∙ ap (λ k. drop k (joined_from w w false text)) at));
+          let at : count - length line + (length line + length rest - n) ≡ count + length rest - n = omega arith in (
+            room,
+            ap (drop (length line + length rest - n)) (sym tail) ∙ drop-drop (length line + length rest - n) (count - length line) (joined_from w w false text)
+                ∙ ap (λ k. drop k (joined_from w w false text)) at,
+          ));
     }
 
 -- ---- the end of a text

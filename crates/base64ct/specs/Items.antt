@@ -2,8 +2,7 @@
 use Rattle.std.specs.Prelude.{◌≡◌, ℕ, ◌+◌, ◌<◌, ◌≤◌, ◌^◌, Bool, true, false, ◌⊎◌, if◌then◌else◌, List, [], ◌∷◌, ◌++◌, length, take, drop, map, Option, Some, None, Contains}
 use Rattle.base64_alphabet.specs.Table.{all_in}
 use Rattle.base64_alphabet.specs.Group.{End, bytes_of}
-use Rattle.base64_alphabet.specs.Encoding.{encoding_of}
-use Rattle.base64_text.specs.Canonical.{IsBytes, loose_bytes}
+use Rattle.base64_text.specs.Canonical.{loose_bytes}
 use Rattle.base64_text.specs.LastBlock.{last_at, HasCanonicalEnd}
 use Rattle.base64ct.specs.Lines.{joined, has_endings, ends_in_ending}
 use Rattle.base64_text.specs.declared.errors.Error.{Error}

@@ -32,7 +32,10 @@ pub(crate) struct Left<'i> {
 
 /// Begins with a text in lines, of which each but the last must have its ending and the last block be
 /// canonical. Answers with it how many bytes it has.
-pub(crate) fn begin<'i, E: Alphabet>(text: &'i [u8], width: usize) -> Result<(Left<'i>, usize), Error>
+pub(crate) fn begin<'i, E: Alphabet>(
+    text: &'i [u8],
+    width: usize,
+) -> Result<(Left<'i>, usize), Error>
     requires width { 4 ≤ width }
     requires some { 0 < length text.now }
     ensures left { IfOk result (λ begun. IsLeft begun.0) }

@@ -22,7 +22,7 @@ pub use base64_alphabet::{
     Alphabet, Base64, Base64ShaCrypt, Base64Unpadded, DecodeStep, EncodeStep, Steps, Unpad,
     group_high, group_low, lanes, split_high, split_low,
 };
+pub use base64_alphabets::{Base64Bcrypt, Base64Crypt, Base64Pbkdf2, Base64Url, Base64UrlUnpadded};
 pub use base64_text::{
     Encoding, Error, InvalidEncodingError, InvalidLengthError, unclean_texts_take_one_count,
 };
-pub use base64_alphabets::{Base64Bcrypt, Base64Crypt, Base64Pbkdf2, Base64Url, Base64UrlUnpadded};

@@ -1,10 +1,10 @@
-use Rattle.std.proofs.Common.{◌≡◌, ℕ, zero, suc, ◌+◌, ◌-◌, ◌*◌, ◌/◌, ◌%◌, ◌<◌, ◌≤◌, Bool, true, false, ◌&&◌, List, [], ◌∷◌, ◌++◌, length, take, drop, arith, refl, ap, sym, ◌∙◌, map, append-nil, Option, Some, None, Contains, inl, inr, length-append, length-drop, subst}
+use Rattle.std.proofs.Common.{◌≡◌, ◌+◌, ◌-◌, ◌*◌, ◌/◌, ◌<◌, false, length, take, drop, arith, refl, ap, sym, ◌∙◌}
 use Rattle.std.proofs.lemmas.List.{length-take-le}
 use Rattle.base64_alphabet.specs.Encoding.{encoding_of}
 use Rattle.base64_alphabet.proofs.TableLemmas.{facts}
 use Rattle.base64_text.specs.LastBlock.{last_at}
 use Rattle.base64ct.specs.Lines.{joined}
-use Rattle.base64ct.specs.Walk.{characters_left, few_bytes, items_left, joined_from}
+use Rattle.base64ct.specs.Walk.{few_bytes, joined_from}
 use Rattle.base64ct.proofs.BeginLemmas.{block_at, cut_joined, first_items, no_end, no_endings}
 use Rattle.base64ct.proofs.LeftLemmas.{length-left}
 use Rattle.base64ct.proofs.left.begin.Goals as goal

@@ -1,4 +1,4 @@
-use Rattle.std.proofs.Common.{◌≡◌, ℕ, zero, suc, ◌+◌, ◌-◌, ◌*◌, ◌/◌, ◌%◌, ◌<◌, ◌≤◌, Bool, true, false, ◌&&◌, List, [], ◌∷◌, ◌++◌, length, take, drop, arith, refl, ap, sym, ◌∙◌, map, append-nil, Option, Some, None, Contains, inl, inr, length-append, length-drop, subst}
+use Rattle.std.proofs.Common.{◌≡◌, ℕ, ◌-◌, ◌*◌, ◌<◌, true, false, List, ◌++◌, length, take, arith, ap, sym, ◌∙◌, map, Option, Some, None, Contains, subst}
 use Rattle.std.proofs.lemmas.List.{take_all}
 use Rattle.base64_alphabet.specs.Table.{all_in}
 use Rattle.base64ct.specs.Items.{block_items}

@@ -1,10 +1,10 @@
-use Rattle.std.proofs.Common.{◌≡◌, ℕ, zero, suc, ◌+◌, ◌-◌, ◌*◌, ◌/◌, ◌%◌, ◌<◌, ◌≤◌, Bool, true, false, ◌&&◌, List, [], ◌∷◌, ◌++◌, length, take, drop, arith, refl, ap, sym, ◌∙◌, map, append-nil, Option, Some, None, Contains, inl, inr, length-append, length-drop, subst}
+use Rattle.std.proofs.Common.{◌≡◌, ℕ, ◌+◌, ◌*◌, ◌≤◌, Bool, ◌&&◌, List, length, take, drop, arith, refl, ap, sym, ◌∙◌}
 use Rattle.std.proofs.lemmas.Bool.{and_parts}
 use Rattle.std.proofs.lemmas.List.{drop-drop}
 use Rattle.base64_alphabet.specs.Encoding.{bytes_of_blocks}
 use Rattle.base64_alphabet.specs.Table.{all_in}
 use Rattle.base64_alphabet.proofs.BlocksLemmas.{all_in-append}
-use Rattle.base64ct.specs.Walk.{characters_left, few_bytes, items_left}
+use Rattle.base64ct.specs.Walk.{characters_left}
 use Rattle.base64ct.proofs.LeftLemmas.{take_blocks_plus, blocks_more}
 use Rattle.base64ct.proofs.left.read_blocks.Goals as goal
 

@@ -1,6 +1,6 @@
-use Rattle.std.proofs.Common.{◌≡◌, ℕ, zero, suc, ◌+◌, ◌-◌, ◌*◌, ◌/◌, ◌%◌, ◌<◌, ◌≤◌, Bool, true, false, ◌&&◌, List, [], ◌∷◌, ◌++◌, length, take, drop, arith, refl, ap, sym, ◌∙◌, map, append-nil, Option, Some, None, Contains, inl, inr, length-append, length-drop, subst}
+use Rattle.std.proofs.Common.{take, drop, ap, sym, ◌∙◌}
 use Rattle.base64_alphabet.specs.Table.{all_in}
-use Rattle.base64ct.specs.Walk.{characters_left, few_bytes, items_left}
+use Rattle.base64ct.specs.Walk.{characters_left}
 use Rattle.base64ct.proofs.LeftLemmas.{in_front, blocks_front}
 use Rattle.base64ct.proofs.left.read_run.Goals as goal
 

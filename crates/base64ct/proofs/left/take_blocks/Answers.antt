@@ -1,7 +1,6 @@
-use Rattle.std.proofs.Common.{◌≡◌, ℕ, zero, suc, ◌+◌, ◌-◌, ◌*◌, ◌/◌, ◌%◌, ◌<◌, ◌≤◌, Bool, true, false, ◌&&◌, List, [], ◌∷◌, ◌++◌, length, take, drop, arith, refl, ap, sym, ◌∙◌, map, append-nil, Option, Some, None, Contains, inl, inr, length-append, length-drop, subst}
-use Rattle.std.proofs.lemmas.List.{take_all, drop_all, length-take-le, take_at, drop_at}
+use Rattle.std.proofs.Common.{◌≡◌, ℕ, ◌-◌, ◌*◌, ◌≤◌, List, ◌++◌, length, take, drop, arith, ap, sym, ◌∙◌, map, append-nil, Option, Some, None, Contains, length-append, length-drop, subst}
+use Rattle.std.proofs.lemmas.List.{drop_all, length-take-le, take_at}
 use Rattle.std.proofs.lemmas.Option.{IfSome_then}
-use Rattle.base64_alphabet.specs.Table.{all_in}
 use Rattle.base64ct.specs.Items.{block_items}
 use Rattle.base64ct.specs.Walk.{characters_left, few_bytes, items_left}
 use Rattle.base64ct.proofs.LeftLemmas.{bad_blocks, bad_behind, blocks_taken, IfNone_then, length-left, put_back, two_pieces}

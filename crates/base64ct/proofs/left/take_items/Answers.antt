@@ -1,8 +1,8 @@
-use Rattle.std.proofs.Common.{◌≡◌, ℕ, zero, suc, ◌+◌, ◌-◌, ◌*◌, ◌/◌, ◌%◌, ◌<◌, ◌≤◌, Bool, true, false, ◌&&◌, List, [], ◌∷◌, ◌++◌, length, take, drop, arith, refl, ap, sym, ◌∙◌, map, append-nil, Option, Some, None, Contains, inl, inr, length-append, length-drop, subst}
+use Rattle.std.proofs.Common.{◌≡◌, ℕ, ◌-◌, ◌*◌, ◌≤◌, List, ◌++◌, length, take, drop, arith, ap, sym, ◌∙◌, map, Some, length-drop}
 use Rattle.std.proofs.lemmas.List.{take_all, length-take-le}
 use Rattle.std.proofs.lemmas.Option.{IfSome_then}
 use Rattle.base64ct.specs.Items.{block_items}
-use Rattle.base64ct.specs.Walk.{characters_left, few_bytes, items_left}
+use Rattle.base64ct.specs.Walk.{characters_left, few_bytes}
 use Rattle.base64ct.proofs.LeftLemmas.{bad_behind, given_items, IfNone_then, put_back, two_pieces}
 use Rattle.base64ct.proofs.left.take_items.Goals as goal
 

@@ -1,8 +1,8 @@
-use Rattle.std.proofs.Common.{◌≡◌, ℕ, zero, suc, ◌+◌, ◌-◌, ◌*◌, ◌/◌, ◌%◌, ◌<◌, ◌≤◌, Bool, true, false, ◌&&◌, List, [], ◌∷◌, ◌++◌, length, take, drop, arith, refl, ap, sym, ◌∙◌, map, append-nil, Option, Some, None, Contains, inl, inr, length-append, length-drop, subst}
+use Rattle.std.proofs.Common.{◌≡◌, ℕ, ◌*◌, ◌<◌, ◌≤◌, List, ◌++◌, length, take, arith, ap, sym, ◌∙◌, map, Some, inl, inr}
 use Rattle.std.proofs.lemmas.Bool.{cases_lt, cases_eq}
 use Rattle.std.proofs.lemmas.List.{take_all}
 use Rattle.base64ct.specs.Items.{block_items}
-use Rattle.base64ct.specs.Walk.{characters_left, few_bytes, items_left}
+use Rattle.base64ct.specs.Walk.{characters_left, few_bytes}
 use Rattle.base64ct.proofs.LeftLemmas.{given_items, length-left}
 use Rattle.base64ct.proofs.left.take_part.Goals as goal
 

@@ -1,4 +1,4 @@
-use Rattle.std.proofs.Common.{ℕ, length}
+use Rattle.std.proofs.Common.{length}
 use Rattle.base64ct.specs.Walk.{IsCut}
 use Rattle.base64ct.proofs.lines.cut_lines.Given as goal
 

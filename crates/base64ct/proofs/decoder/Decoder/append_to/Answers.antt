@@ -1,4 +1,4 @@
-use Rattle.std.proofs.Common.{◌≡◌, ℕ, zero, suc, ◌+◌, ◌-◌, ◌*◌, ◌/◌, ◌%◌, ◌<◌, ◌≤◌, Bool, true, false, ◌&&◌, ◌⊎◌, List, [], ◌∷◌, ◌++◌, length, take, drop, arith, rules, refl, ap, sym, ◌∙◌, map, append-nil, Option, Some, None, Contains, inl, inr, length-append, length-drop, subst, vec_len, replicate}
+use Rattle.std.proofs.Common.{◌≡◌, ◌-◌, [], ◌++◌, length, take, drop, arith, ap, ◌∙◌, length-append, length-drop, vec_len, replicate}
 use Rattle.std.proofs.lemmas.List.{drop_all, length-take-le}
 use borrow.Rule.Slice.PartMut.{post_of}
 use Rattle.base64ct.proofs.DecoderLemmas.{appended, front_of}

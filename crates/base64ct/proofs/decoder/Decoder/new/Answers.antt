@@ -1,4 +1,4 @@
-use Rattle.std.proofs.Common.{◌≡◌, ℕ, zero, suc, ◌+◌, ◌-◌, ◌*◌, ◌/◌, ◌%◌, ◌<◌, ◌≤◌, Bool, true, false, ◌&&◌, ◌⊎◌, List, [], ◌∷◌, ◌++◌, length, take, drop, arith, rules, refl, ap, sym, ◌∙◌, map, append-nil, Option, Some, None, Contains, inl, inr, length-append, length-drop, subst, vec_len, replicate}
+use Rattle.std.proofs.Common.{ℕ, ◌<◌, List, length, arith, rules, ap, sym, ◌∙◌, subst}
 use Rattle.base64_text.specs.LastBlock.{HasCanonicalEnd}
 use Rattle.base64_text.specs.declared.errors.Error.{Error}
 use Rattle.base64ct.specs.Items.{items, IsNewError}

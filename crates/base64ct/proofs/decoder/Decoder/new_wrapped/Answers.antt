@@ -1,4 +1,4 @@
-use Rattle.std.proofs.Common.{◌≡◌, ℕ, zero, suc, ◌+◌, ◌-◌, ◌*◌, ◌/◌, ◌%◌, ◌<◌, ◌≤◌, Bool, true, false, ◌&&◌, List, [], ◌∷◌, ◌++◌, length, take, drop, arith, rules, refl, ap, sym, ◌∙◌, map, append-nil, Option, Some, None, Contains, inl, inr, length-append, length-drop, subst}
+use Rattle.std.proofs.Common.{◌<◌, length, arith, rules, sym, ◌∙◌}
 use Rattle.std.proofs.lemmas.Bool.{both_ways}
 use Rattle.base64_alphabet.proofs.TableLemmas.{facts}
 use Rattle.base64_text.specs.declared.errors.Error.TheVariants.{InvalidEncoding}
@@ -31,8 +31,8 @@ returns-clause-text g c =
     let wide = c.if-line_width-lt-MIN_LINE_WIDTH.false in
     let some : 0 < length c.args.input.now = search rules in
     ok_then _ _ c.start.result (ok_both _ _ c.start.result c.start.ensures.items (ok_both _ _ c.start.result c.start.ensures.endings c.start.ensures.canonical)) (λ d h b bytes is.
-        bytes_of_lines g.E.Alphabet.end g.E.Alphabet.table g.E.Alphabet.PADDED c.args.line_width c.args.input.now b (facts g.E.Alphabet.table g.met.E.Alphabet.lawful) (omega arith) some
-        (sym c.ends_in_break.ensures ∙ c.if-ends_in_break.false, h.1.0, h.1.1) bytes (sym h.0 ∙ is))
+    bytes_of_lines g.E.Alphabet.end g.E.Alphabet.table g.E.Alphabet.PADDED c.args.line_width c.args.input.now b (facts g.E.Alphabet.table g.met.E.Alphabet.lawful) (omega arith) some
+    (sym c.ends_in_break.ensures ∙ c.if-ends_in_break.false, h.1.0, h.1.1) bytes (sym h.0 ∙ is))
 
 pub returns-clause-no_bytes : goal.returns-clause-no_bytes
 returns-clause-no_bytes g c is b wrapped =

@@ -1,4 +1,4 @@
-use Rattle.std.proofs.Common.{◌≡◌, ℕ, zero, suc, ◌+◌, ◌-◌, ◌*◌, ◌/◌, ◌%◌, ◌<◌, ◌≤◌, Bool, true, false, ◌&&◌, ◌⊎◌, List, [], ◌∷◌, ◌++◌, length, take, drop, arith, rules, refl, ap, sym, ◌∙◌, map, append-nil, Option, Some, None, Contains, inl, inr, length-append, length-drop, subst, vec_len, replicate}
+use Rattle.std.proofs.Common.{◌≡◌, ℕ, List, length, drop, arith, ap, sym, ◌∙◌, map, Option, Some, length-append, length-drop, subst}
 use Rattle.std.proofs.lemmas.List.{length-take-le, take_at}
 use Rattle.std.specs.Io.KnownBytes.{Consumes}
 use Rattle.base64ct.specs.Items.{known_bytes}
@@ -21,8 +21,7 @@ returns-clause-bytes g c =
     let count = ap length c.in_ok-fill.ensures.items ∙ length-append (map {A = ℕ} {B = Option ℕ} Some c.fill.new.out) c.fill.new.self in
     let given = length-map_some c.fill.new.out in
     let both = length-append c.fill.new.out (drop c.min-n.result c.args.buf.now) in
-    let rest = length-drop c.min-n.result c.args.buf.now in
-    (
+    let rest = length-drop c.min-n.result c.args.buf.now in (
       subst (λ (us : List ℕ). Consumes (known_bytes c.args.self.now) (known_bytes c.fill.new.self) us) (sym (take_at c.fill.new.out (drop c.min-n.result c.args.buf.now) c.min-n.result len))
           (consumed c.args.self.now c.fill.new.self c.fill.new.out c.in_ok-fill.ensures.items),
       λ nothing some. at_end_of c.fill.new.self (omega arith),
