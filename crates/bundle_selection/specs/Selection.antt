@@ -3,19 +3,17 @@ use Rattle.std.specs.Prelude.{◌≡◌, ℕ, List, Option, IfSome, Result, Ok, 
 use Rattle.std.specs.Io.KnownBytes.{Appends, IsAtEnd}
 use Rattle.identity_io.specs.Causes.{Rose}
 use Rattle.identity_io.specs.Whole.{AppendsPrefix}
-use Rattle.serde_json.specs.Written.{compact_text}
 use Rattle.identity_commands.specs.Outcome.{Streams}
 use Rattle.identity_commands.specs.declared.status.Status.{Status}
 use Rattle.identity_commands.specs.declared.status.Status.TheVariants.{Done, Refused, Usage, SourceFailed, SinkFailed, OutOfMemory, TooLong, BadScript}
-use Rattle.bundle_document.specs.Keys.{key_set_value}
-use Rattle.bundle_document.specs.Document.{Document}
+use Rattle.bundle_document.specs.Document.{Document, key_set_text}
 use Rattle.bundle_document.specs.Reading.{document_of}
 use Rattle.bundle_document.specs.declared.error.DocumentError.{DocumentError}
 use Rattle.bundle_selection.specs.Refusal.{document_line}
 
 -- what is printed of a document, or of the first rule that bytes break
 abbrev pub selected_text : Result Document DocumentError → List ℕ
-selected_text (Ok d) = compact_text (key_set_value d.keys)
+selected_text (Ok d) = key_set_text d.keys
 selected_text (Err e) = document_line e
 
 abbrev pub selected_status : Result Document DocumentError → Status
