@@ -45,7 +45,8 @@ module _ {Y X V W A : Type 0} (see : Y → X) (plain : V → A) (plains : W → 
   refused_gives files n d found e lt before (inr h) = inr (next_refused see plain (Rule files) ys n d found e lt h before)
 
   pub loop_refused : {old mid new : Option Files} {before between now : ℕ} (n : ℕ) (d : Y) (found : List A) (e : PackError) → n < length ys
-      → So old found n → mid ≡ old → before ≤ between → Tries plain (λ files. Rule files n (see (get_or ys n d))) mid new between now (Err e) → Tries plains (λ files. Each (Rule files) 0 (map see ys)) old new before now (Err e)
+      → So old found n → mid ≡ old → before ≤ between → Tries plain (λ files. Rule files n (see (get_or ys n d))) mid new between now (Err e)
+      → Tries plains (λ files. Each (Rule files) 0 (map see ys)) old new before now (Err e)
   loop_refused {before = before} {between = between} {now = now} n d found e lt so kept later t = record {
     told = λ files told. refused_gives files n d found e lt (so files told) (t.told files (kept ∙ told));
     kept = t.kept ∙ kept;
@@ -53,7 +54,8 @@ module _ {Y X V W A : Type 0} (see : Y → X) (plain : V → A) (plains : W → 
     fault = λ fault. let b : Rose between now = t.fault fault in omega arith;
   }
 
-  pub loop_ended : {old new : Option Files} {before now : ℕ} (n : ℕ) (w : W) → length ys ≤ n → So old (plains w) n → new ≡ old → before ≤ now → Tries plains (λ files. Each (Rule files) 0 (map see ys)) old new before now (Ok w)
+  pub loop_ended : {old new : Option Files} {before now : ℕ} (n : ℕ) (w : W) → length ys ≤ n → So old (plains w) n → new ≡ old → before ≤ now
+      → Tries plains (λ files. Each (Rule files) 0 (map see ys)) old new before now (Ok w)
   loop_ended n w past so kept later = record {
     told = λ files told. all_done (Rule files) (map see ys) (plains w) n (subst (λ (l : List Y). Progress (Rule files) (map see ys) (plains w) n (map see l)) (drop_all n ys past) (so files told));
     kept = kept;

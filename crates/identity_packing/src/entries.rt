@@ -60,7 +60,8 @@ fn public_key<D: Disk>(
     path: Option<&str>,
     key: &PrivateKeyInfoOwned,
 ) -> Result<SubjectPublicKeyInfoOwned, PackError>
-    ensures { Tries plain_public_key (λ files. PublicKeyRule files entry (option_map (λ p. p.now) path.entry) (plain_private_key key.now)) (D.files disk.old) (D.files disk.new) (D.faults disk.old) (D.faults disk.new) result }
+    ensures { Tries plain_public_key (λ files. PublicKeyRule files entry (option_map (λ p. p.now) path.entry) (plain_private_key key.now))
+        (D.files disk.old) (D.files disk.new) (D.faults disk.old) (D.faults disk.new) result }
 {
     match path {
         Some(path) => read_public_key(alloc, disk, entry, path),

@@ -103,7 +103,8 @@ pub(crate) fn read_private_key<D: Disk>(
     entry: usize,
     path: &str,
 ) -> Result<PrivateKeyInfoOwned, PackError>
-    ensures { Tries plain_private_key (λ files. OrFault (RefusedAs (PackError.KeyFile entry) (ReadsPrivateKeyFile (file_at path.now files)))) (D.files disk.old) (D.files disk.new) (D.faults disk.old) (D.faults disk.new) result }
+    ensures { Tries plain_private_key (λ files. OrFault (RefusedAs (PackError.KeyFile entry) (ReadsPrivateKeyFile (file_at path.now files))))
+        (D.files disk.old) (D.files disk.new) (D.faults disk.old) (D.faults disk.new) result }
 {
     match PrivateKeyInfoOwned::read_pkcs8_der_file(alloc, disk, path) {
         Ok(key) => Ok(key),
@@ -118,7 +119,8 @@ pub(crate) fn read_public_key<D: Disk>(
     entry: usize,
     path: &str,
 ) -> Result<SubjectPublicKeyInfoOwned, PackError>
-    ensures { Tries plain_public_key (λ files. OrFault (RefusedAs (PackError.PublicFile entry) (ReadsPublicKeyFile (file_at path.now files)))) (D.files disk.old) (D.files disk.new) (D.faults disk.old) (D.faults disk.new) result }
+    ensures { Tries plain_public_key (λ files. OrFault (RefusedAs (PackError.PublicFile entry) (ReadsPublicKeyFile (file_at path.now files))))
+        (D.files disk.old) (D.files disk.new) (D.faults disk.old) (D.faults disk.new) result }
 {
     match SubjectPublicKeyInfoOwned::read_public_key_der_file(alloc, disk, path) {
         Ok(key) => Ok(key),
