@@ -1,0 +1,3 @@
+pub mod ManifestError
+pub mod Manifest
+pub mod Views

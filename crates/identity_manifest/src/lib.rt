@@ -1,0 +1,14 @@
+//! Manifests: a JSON text that names the identities and bundles of an update, and the files that hold their keys. Reading one gives what it names, or the first rule that the text breaks.
+//!
+//! ```text
+//! let value = read_value(alloc, text)?;
+//! let manifest = Manifest::of(alloc, text, &value)?;
+//! assert_eq!(manifest.entries[0].key, "a.key.der");
+//! ```
+#![tactic(auto)]
+
+mod error;
+mod manifest;
+
+pub use error::{ManifestError, ReadError};
+pub use manifest::{Manifest, NamedBundle, NamedEntry, read_value};

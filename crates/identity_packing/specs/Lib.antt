@@ -1,0 +1,6 @@
+pub mod FileError
+pub mod Rules
+pub mod KeyFiles
+pub mod Packed
+pub mod Tries
+pub mod Text
