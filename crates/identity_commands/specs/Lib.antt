@@ -3,3 +3,4 @@ pub mod Printed
 pub mod Report
 pub mod Refusal
 pub mod Outcome
+pub mod Made

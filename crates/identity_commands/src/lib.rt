@@ -2,6 +2,8 @@
 #![tactic(auto)]
 
 mod answers;
+mod made_entries;
+mod making;
 mod printed;
 mod refusal;
 mod report_lines;
@@ -9,8 +11,9 @@ mod showing;
 mod status;
 
 pub use answers::report;
+pub use making::make;
 pub use printed::push_printed;
-pub use refusal::refusal_text;
+pub use refusal::{json_text, refusal_text};
 pub use report_lines::{push_bundle_words, report_text};
 pub use showing::{chosen, show};
 pub use status::Status;

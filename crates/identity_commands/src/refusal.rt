@@ -24,7 +24,8 @@ fn id_text(cause: &SpiffeIdError) -> &'static str
     }
 }
 
-fn json_text(cause: &JsonError) -> &'static str
+/// What is wrong with a JSON text, in the words of a refusal's line.
+pub fn json_text(cause: &JsonError) -> &'static str
     ensures { result.now ≡ json_rule cause.now }
 {
     match cause {
