@@ -110,8 +110,10 @@ fn converts_a_part_and_a_run(rt: HostRuntime) {
         14, 15, 16, 17, 18, 19, 20,
     ];
     let part = b"AZaz09+/=-\x00\xffBCDEFGHIJKLMNOPQRSTU";
-    let (converted_places, out, answer) =
-        converted::<Base64>(part, b"Zm9vYmFyZm9vYmFyZm9vYmFyZm9vYmFyZm9v");
+    let (converted_places, out, answer) = converted::<Base64>(
+        part,
+        b"Zm9vYmFyZm9vYmFyZm9vYmFyZm9vYmFyZm9v",
+    );
     assert_eq!(rt; converted_places, places);
     assert_eq!(rt; &out, b"foobarfoobarfoobarfoobarfoo\x07");
     assert_eq!(rt; answer, 0);

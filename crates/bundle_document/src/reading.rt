@@ -60,11 +60,7 @@ fn array_in(value: &Value) -> Result<&Vec<Value>, DocumentError>
     }
 }
 
-fn number_in(
-    value: &Value,
-    name: &str,
-    broken: DocumentError,
-) -> Result<Option<u64>, DocumentError>
+fn number_in(value: &Value, name: &str, broken: DocumentError) -> Result<Option<u64>, DocumentError>
     ensures { result ≡ number_in broken (get name.now (view value.now)) }
 {
     match value.get(name) {
@@ -99,13 +95,17 @@ fn check_naming(keys: &[Value]) -> Result<(), DocumentError>
 fn count_for_x509(keys: &[Value]) -> usize
     ensures { result ≡ count_by (λ d. is_for_x509 (use_of d)) (map view keys.now) }
 {
-    keys.iter().filter(|key| KeyUse::of(key).is_for_x509()).count()
+    keys.iter()
+        .filter(|key| KeyUse::of(key).is_for_x509())
+        .count()
 }
 
 fn count_for_neither(keys: &[Value]) -> usize
     ensures { result ≡ count_by (λ d. is_for_neither (use_of d)) (map view keys.now) }
 {
-    keys.iter().filter(|key| KeyUse::of(key).is_for_neither()).count()
+    keys.iter()
+        .filter(|key| KeyUse::of(key).is_for_neither())
+        .count()
 }
 
 fn keys_for_tokens(alloc: Global, keys: &[Value]) -> Result<Vec<Value>, AllocError>

@@ -61,7 +61,12 @@ fn with_number(
     };
     match value {
         Value::Object(mut members) => {
-            put(&mut members, alloc, name, Value::Number(Number::from(number)))?;
+            put(
+                &mut members,
+                alloc,
+                name,
+                Value::Number(Number::from(number)),
+            )?;
             Ok(Value::Object(members))
         }
         other => Ok(other),

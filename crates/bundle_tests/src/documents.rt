@@ -133,7 +133,8 @@ fn large_documents(rt: HostRuntime) {
     let deep = "[".repeat(alloc, 124).expect(&rt, "memory");
     let back = "]".repeat(alloc, 124).expect(&rt, "memory");
     let last = format!(in alloc; r#"{{"kid":"last","use":"jwt-svid","x":{deep}{back}}}]}}"#);
-    json.push_str(last.expect(&rt, "memory").as_str()).expect(&rt, "memory");
+    json.push_str(last.expect(&rt, "memory").as_str())
+        .expect(&rt, "memory");
     let found = document(&rt, alloc, json.as_str());
     assert!(rt; found.jwks() == json.as_bytes());
 }
@@ -152,7 +153,8 @@ fn bundles_are_written(rt: HostRuntime) {
     assert!(rt; made.jwks() == read.jwks());
     let json = made.to_json(alloc).expect(&rt, "memory");
     assert!(rt;
-        json.as_slice() == br#"{"keys":[{"kid":"a","kty":"EC","use":"jwt-svid"}],"spiffe_refresh_hint":300,"spiffe_sequence":7}"#.as_slice()
+        json.as_slice()
+            == br#"{"keys":[{"kid":"a","kty":"EC","use":"jwt-svid"}],"spiffe_refresh_hint":300,"spiffe_sequence":7}"#.as_slice()
     );
 }
 
@@ -165,7 +167,10 @@ fn numbers_are_written(rt: HostRuntime) {
         r#"{"keys":[{"kid":"k","use":"jwt-svid"}],"spiffe_refresh_hint":18446744073709551615,"spiffe_sequence":2}"#,
     ] {
         let found = document(&rt, rt.alloc(), json).to_json(rt.alloc());
-        assert!(rt; found.expect(&rt, "memory").as_slice() == json.as_bytes(), "{json}");
+        assert!(rt;
+            found.expect(&rt, "memory").as_slice() == json.as_bytes(),
+            "{json}"
+        );
     }
 }
 
@@ -177,7 +182,10 @@ fn feed_keeps_the_newest(rt: HostRuntime) {
         (r#","spiffe_sequence":7"#, Ok(()), Some(7)),
         (
             r#","spiffe_sequence":6"#,
-            Err(FeedError::Older { kept: 7, offered: 6 }),
+            Err(FeedError::Older {
+                kept: 7,
+                offered: 6,
+            }),
             Some(7),
         ),
         (r#","spiffe_sequence":7"#, Ok(()), Some(7)),
@@ -197,7 +205,10 @@ fn errors_are_told(rt: HostRuntime) {
         (DocumentError::Deserialize(JsonError::Keys), "no keys array"),
         (DocumentError::Sequence, "bad sequence"),
         (DocumentError::RefreshHint, "bad refresh hint"),
-        (DocumentError::MissingKeyId { key: 4 }, "key 4: missing key ID"),
+        (
+            DocumentError::MissingKeyId { key: 4 },
+            "key 4: missing key ID",
+        ),
         (DocumentError::OutOfMemory, "out of memory"),
     ] {
         let found = format!(in rt.alloc(); "{error}").expect(&rt, "memory");

@@ -3,6 +3,5 @@
 
 #[cfg(test)]
 mod documents;
-
 #[cfg(test)]
 mod selection;

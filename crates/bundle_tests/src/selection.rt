@@ -31,11 +31,23 @@ fn select_in<R: Abort>(
 #[test]
 fn documents(rt: HostRuntime) {
     for (json, status, printed) in [
-        (SAMPLE, Status::Done, r#"{"keys":[{"kid":"a","kty":"EC","use":"jwt-svid"}]}"#),
+        (
+            SAMPLE,
+            Status::Done,
+            r#"{"keys":[{"kid":"a","kty":"EC","use":"jwt-svid"}]}"#,
+        ),
         ("{", Status::Refused, "refused: invalid JSON\n"),
-        (r#"{"a":1.5}"#, Status::Refused, "refused: number not allowed\n"),
+        (
+            r#"{"a":1.5}"#,
+            Status::Refused,
+            "refused: number not allowed\n",
+        ),
         (r#"{"a":1}"#, Status::Refused, "refused: no keys array\n"),
-        (r#"{"keys":[],"spiffe_sequence":-1}"#, Status::Refused, "refused: bad sequence\n"),
+        (
+            r#"{"keys":[],"spiffe_sequence":-1}"#,
+            Status::Refused,
+            "refused: bad sequence\n",
+        ),
         (
             r#"{"keys":[],"spiffe_refresh_hint":-1}"#,
             Status::Refused,

@@ -3,6 +3,5 @@
 
 #[cfg(test)]
 mod streams;
-
 #[cfg(test)]
 mod texts;

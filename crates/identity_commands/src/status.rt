@@ -4,7 +4,7 @@ ghost use Rattle.identity_commands.specs.Status.{status_number};
 
 use identity_io::ReadError;
 
-const USAGE: &str = "usage: identity_tool show WIDTH < UPDATE or serve WIDTH < SCRIPT";
+const USAGE: &str = "usage: identity_tool show WIDTH < UPDATE, serve WIDTH < SCRIPT or make N";
 
 /// How a command ended.
 #[derive(Clone, Copy, Debug, PartialEq, Eq)]

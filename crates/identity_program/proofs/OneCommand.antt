@@ -3,7 +3,7 @@ use Rattle.std.proofs.Common.{◌≡◌, ◌∙◌, ◌<◌, ◌≤◌, ◌^◌,
 use Rattle.std.proofs.lemmas.Fmt.{decimal_injective}
 use Rattle.identity_program.specs.Words.{IsCommand, WordsAreOneCommand}
 use Rattle.identity_program.specs.declared.words.Command.{Command}
-use Rattle.identity_program.specs.declared.words.Command.TheVariants.{Show, Serve}
+use Rattle.identity_program.specs.declared.words.Command.TheVariants.{Show, Serve, Make}
 
 -- a character of the first word can't be two
 other_name : (words : List (List ℕ)) (k a b : ℕ) → get_or (get_or words 0 []) k 0 ≡ a → get_or (get_or words 0 []) k 0 ≡ b → a < b → ⊥
@@ -20,3 +20,8 @@ one_command words (Show m) (Show n) p q = ap Show (decimal_injective m n p.1 q.1
 one_command words (Serve m) (Serve n) p q = ap Serve (decimal_injective m n p.1 q.1 (sym (at 1 words _ p.0) ∙ at 1 words _ q.0))
 one_command words (Show m) (Serve n) p q = absurd (other_name words 1 101 104 (letter 1 words _ q.0) (letter 1 words _ p.0) (omega arith))
 one_command words (Serve m) (Show n) p q = absurd (other_name words 1 101 104 (letter 1 words _ p.0) (letter 1 words _ q.0) (omega arith))
+one_command words (Make m) (Make n) p q = ap Make (decimal_injective m n (omega (arith, p.2)) (omega (arith, q.2)) (sym (at 1 words _ p.0) ∙ at 1 words _ q.0))
+one_command words (Show m) (Make n) p q = absurd (other_name words 0 109 115 (letter 0 words _ q.0) (letter 0 words _ p.0) (omega arith))
+one_command words (Make m) (Show n) p q = absurd (other_name words 0 109 115 (letter 0 words _ p.0) (letter 0 words _ q.0) (omega arith))
+one_command words (Serve m) (Make n) p q = absurd (other_name words 0 109 115 (letter 0 words _ q.0) (letter 0 words _ p.0) (omega arith))
+one_command words (Make m) (Serve n) p q = absurd (other_name words 0 109 115 (letter 0 words _ p.0) (letter 0 words _ q.0) (omega arith))

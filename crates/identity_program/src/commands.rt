@@ -6,7 +6,7 @@ ghost use Rattle.identity_program.specs.Words.{IsCommand, IsUsage, texts};
 ghost use Rattle.identity_program.specs.declared.words.Command.{Command};
 
 use crate::words::{Command, read_words};
-use identity_commands::{Status, show};
+use identity_commands::{Status, make, show};
 use identity_io::{LIMIT, Sink, Source};
 use identity_script::session;
 use std::alloc::Global;
@@ -25,12 +25,13 @@ pub fn run<R: Wait, S: Source, K: Sink>(
     ensures ran { result ≢ Status.Usage → (command : Command) × IsCommand (texts words.now) command × Ran LIMIT command
         (record { left = S.left input.old; read_faults = S.faults input.old; written = K.written out.old; write_faults = K.faults out.old })
         (record { left = S.left input.new; read_faults = S.faults input.new; written = K.written out.new; write_faults = K.faults out.new })
-        result (out.new ≡ out.old) }
+        result (input.new ≡ input.old) (out.new ≡ out.old) }
     ensures later { (S.faults input.old ≤ S.faults input.new) × (K.faults out.old ≤ K.faults out.new) }
 {
     match read_words(words) {
         Some(Command::Show(width)) => show(rt, alloc, width as usize, input, out),
         Some(Command::Serve(width)) => session(rt, alloc, width as usize, input, out),
+        Some(Command::Make(n)) => make(alloc, n, out),
         None => Status::Usage,
     }
 }

@@ -7,7 +7,7 @@ mod program;
 mod words;
 
 pub use commands::run;
-pub use program::run_program;
+pub use program::{run_program, words_of};
 pub use words::{Command, read_words, unread};
 
 #[cfg(test)]

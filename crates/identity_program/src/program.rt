@@ -7,8 +7,8 @@ use std::process::ExitCode;
 use std::sync::Wait;
 use std::{env, io};
 
-// The words after the program's name. One that isn't UTF-8 is an error.
-fn words_of(rt: &HostRuntime) -> io::Result<Vec<String>> {
+/// The words after the program's name. One that isn't UTF-8 is an error, which [`unread`] gives its status.
+pub fn words_of(rt: &HostRuntime) -> io::Result<Vec<String>> {
     let mut words = Vec::new(rt.alloc());
     for word in env::args(rt)?.skip(1) {
         words.push(word)?;

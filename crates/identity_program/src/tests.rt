@@ -102,7 +102,7 @@ fn reports(rt: HostRuntime) {
 #[test]
 fn words(rt: HostRuntime) {
     let mut room = [0u8; 200];
-    let commands: [&[&str]; 14] = [
+    let commands: [&[&str]; 18] = [
         &[],
         &["show"],
         &["show", "064"],
@@ -115,7 +115,11 @@ fn words(rt: HostRuntime) {
         &["serve", "6 4"],
         &["serve", "64", "1"],
         &["serve", "064"],
-        &["make", "1"],
+        &["make"],
+        &["make", "0"],
+        &["make", "01"],
+        &["make", "10001"],
+        &["make", "1", "1"],
         &["watch", "64", "4"],
     ];
     for words in commands {
@@ -190,4 +194,29 @@ fn serves(rt: HostRuntime) {
         assert_eq!(rt; outcome, (status, 12));
         assert!(rt; room.starts_with(b"svid 0 none\n"));
     }
+}
+
+#[test]
+fn makes(rt: HostRuntime) {
+    let mut room = [0u8; 100];
+    for (n, printed) in [
+        (
+            "1",
+            "entries 1\ndocument 167\ntext 227\nlast spiffe://example.org/w/0\n",
+        ),
+        (
+            "2",
+            "entries 2\ndocument 326\ntext 442\nlast spiffe://example.org/w/1\n",
+        ),
+        (
+            "10000",
+            "entries 10000\ndocument 1408942\ntext 1907944\nlast spiffe://example.org/w/9999\n",
+        ),
+    ] {
+        let outcome = run_in(&rt, rt.alloc(), &["make", n], "", (&[], &[]), &mut room);
+        assert_eq!(rt; outcome, (Status::Done, printed.len()), "{n}");
+        assert!(rt; room.starts_with(printed.as_bytes()), "{n}");
+    }
+    let faulty = run_in(&rt, rt.alloc(), &["make", "1"], "", (&[0], &[2]), &mut room);
+    assert_eq!(rt; faulty, (Status::SinkFailed, 10));
 }

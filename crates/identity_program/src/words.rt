@@ -1,5 +1,5 @@
 //! The words of the command line.
-ghost use Rattle.std.specs.Prelude.{◌≡◌, ◌∷◌, [], IfNone, IfSome};
+ghost use Rattle.std.specs.Prelude.{◌≡◌, ◌≢◌, ◌≤◌, ◌∷◌, [], ℕ, IfNone, IfSome, decimal};
 ghost use Rattle.identity_program.specs.Words.{IsCommand, IsUsage, texts, unread_status};
 
 use identity_commands::Status;
@@ -14,6 +14,21 @@ pub enum Command {
 
     /// Answer a script request by request, whose updates are in lines of so many characters.
     Serve(u64),
+
+    /// Make an update of so many entries, and read it back.
+    Make(u64),
+}
+
+/// The most entries of an update that is made.
+const MOST_ENTRIES: u64 = 10_000;
+
+// The number from 1 to `most` that the text writes.
+fn count(text: &str, most: u64) -> Option<u64>
+    ensures some { IfSome result (λ n. (text.now ≡ decimal n) × (1 ≤ n) × (n ≤ most)) }
+    ensures none { IfNone result ((n : ℕ) → 1 ≤ n → n ≤ most → text.now ≢ decimal n) }
+{
+    let n = read_number(text)?;
+    if 1 <= n && n <= most { Some(n) } else { None }
 }
 
 // The command that these two words write.
@@ -24,6 +39,7 @@ fn two_words(name: &str, digits: &str) -> Option<Command>
     match name {
         "show" => Some(Command::Show(read_number(digits)?)),
         "serve" => Some(Command::Serve(read_number(digits)?)),
+        "make" => Some(Command::Make(count(digits, MOST_ENTRIES)?)),
         _ => None,
     }
 }

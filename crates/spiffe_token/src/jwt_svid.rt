@@ -257,7 +257,8 @@ impl fmt::Debug for JwtSvid {
         let alg = self.alg.name();
         let audiences = self.claims.aud().len();
         let len = self.token.len();
-        write!(f,
+        write!(
+            f,
             "JwtSvid {{ spiffe_id: {}, alg: {alg}, expiry: {}, audiences: {audiences}, token: Token {{ len: {len} }} }}",
             self.spiffe_id,
             self.claims.exp()
