@@ -1,4 +1,4 @@
-use Rattle.std.proofs.Common.{sym, ◌∙◌}
+use Rattle.std.proofs.Common.{Some, sym, ap, ◌∙◌}
 use Rattle.spiffe_core.proofs.jwt_authority.JwtAuthority.from_value.Goals as goal
 
 pub invariant_of-result : goal.invariant_of-result
