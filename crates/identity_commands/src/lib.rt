@@ -13,7 +13,7 @@ mod status;
 pub use answers::report;
 pub use making::make;
 pub use printed::push_printed;
-pub use refusal::{json_text, refusal_text};
+pub use refusal::{id_text, json_text, refusal_text};
 pub use report_lines::{push_bundle_words, report_text};
 pub use showing::{chosen, show};
 pub use status::Status;

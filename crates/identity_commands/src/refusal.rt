@@ -6,7 +6,8 @@ use identity_source::UpdateError;
 use spiffe_core::{JsonError, JwtBundleError, SpiffeIdError};
 use std::alloc::{AllocError, Global};
 
-fn id_text(cause: &SpiffeIdError) -> &'static str
+/// What is wrong with a SPIFFE ID or a trust domain, in the words of a refusal's line.
+pub fn id_text(cause: &SpiffeIdError) -> &'static str
     ensures { result.now ≡ id_rule cause.now }
 {
     match cause {
