@@ -1,5 +1,5 @@
 //! The words of the command line.
-ghost use Rattle.std.specs.Prelude.{IfNone, IfSome};
+ghost use Rattle.std.specs.Prelude.{◌∷◌, [], IfNone, IfSome};
 ghost use Rattle.identity_program.specs.Words.{texts};
 ghost use Rattle.packing_program.specs.Views.{order_of};
 ghost use Rattle.packing_program.specs.Words.{IsCommand, IsUsage};
@@ -16,6 +16,20 @@ pub struct Command<'w> {
     pub width: u64,
 }
 
+// The command that these three words write.
+fn three_words<'w>(name: &str, manifest: &'w str, digits: &str) -> Option<Command<'w>>
+    ensures some { IfSome result (λ command. IsCommand (name.now ∷ manifest.now ∷ digits.now ∷ []) (order_of command)) }
+    ensures none { IfNone result (IsUsage (name.now ∷ manifest.now ∷ digits.now ∷ [])) }
+{
+    match name {
+        "pack" => Some(Command {
+            manifest,
+            width: read_number(digits)?,
+        }),
+        _ => None,
+    }
+}
+
 /// The command that the words write, none where they are no command.
 pub fn read_words(words: &[String]) -> Option<Command<'_>>
     ensures some { IfSome result (λ command. IsCommand (texts words.now) (order_of command)) }
@@ -23,15 +37,7 @@ pub fn read_words(words: &[String]) -> Option<Command<'_>>
 {
     match words {
         [name, manifest, digits] => {
-            if name.as_str() == "pack" {
-                let width = read_number(digits.as_str())?;
-                Some(Command {
-                    manifest: manifest.as_str(),
-                    width,
-                })
-            } else {
-                None
-            }
+            three_words(name.as_str(), manifest.as_str(), digits.as_str())
         }
         _ => None,
     }
