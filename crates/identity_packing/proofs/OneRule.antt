@@ -4,15 +4,15 @@ use Rattle.identity_packing.specs.OneAnswer.{IsNoFault}
 use Rattle.identity_packing.specs.Rules.{Each, Is, Mapped, OrFault, RefusedAs, Then}
 use Rattle.identity_packing.specs.declared.error.PackError.{PackError}
 
-abbrev value_or : {A E : Type 0} → A → Result A E → A
+abbrev pub value_or : {A E : Type 0} → A → Result A E → A
 value_or default (Ok a) = a
 value_or default (Err e) = default
 
-abbrev error_or : {A E : Type 0} → E → Result A E → E
+abbrev pub error_or : {A E : Type 0} → E → Result A E → E
 error_or default (Ok a) = default
 error_or default (Err e) = e
 
-abbrev HasValue : {A E : Type 0} → Result A E → Type 0
+abbrev pub HasValue : {A E : Type 0} → Result A E → Type 0
 HasValue (Ok a) = Unit {0}
 HasValue (Err e) = ⊥
 

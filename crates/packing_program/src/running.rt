@@ -24,11 +24,7 @@ struct Answer {
 }
 
 // The answer to an order, or how the run ends without one.
-fn answer_to<D: Disk>(
-    alloc: Global,
-    command: &Command<'_>,
-    disk: &mut D,
-) -> Result<Answer, Status>
+fn answer_to<D: Disk>(alloc: Global, command: &Command<'_>, disk: &mut D) -> Result<Answer, Status>
     ensures answer { IfOk result (λ a. Prints (D.files disk.old) (order_of command.now) a.printed.items a.status) }
     ensures stopped { IfErr result (λ status. ((status ≡ Status.SourceFailed) × Rose (D.faults disk.old) (D.faults disk.new)) ⊎ (status ≡ Status.OutOfMemory)) }
     ensures kept { D.files disk.new ≡ D.files disk.old }
@@ -58,12 +54,7 @@ fn answer_to<D: Disk>(
 
 /// Packs what the words order, and writes the text in lines that end in LF, with none after the last, or the line of the
 /// first rule that is broken. Nothing is written before the answer is whole.
-pub fn run<D: Disk, K: Sink>(
-    alloc: Global,
-    words: &[String],
-    disk: &mut D,
-    out: &mut K,
-) -> Status
+pub fn run<D: Disk, K: Sink>(alloc: Global, words: &[String], disk: &mut D, out: &mut K) -> Status
     ensures usage { result ≡ Status.Usage ↔ IsUsage (texts words.now) }
     ensures not_begun { result ≡ Status.Usage → (disk.new ≡ disk.old) × (out.new ≡ out.old) }
     ensures runs { result ≢ Status.Usage → (order : Order) × IsCommand (texts words.now) order × Runs order

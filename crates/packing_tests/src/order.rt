@@ -2,7 +2,7 @@
 use crate::packing::{MANIFEST, NEVER, TEXT};
 use crate::shelf::disk_with;
 use base64ct::LineEnding;
-use identity_io::{Disk, LIMIT};
+use identity_io::LIMIT;
 use identity_packing::{FileError, ManifestError, PackError, pack};
 use spiffe_id::SpiffeIdError;
 
@@ -14,9 +14,24 @@ fn manifests(rt: HostRuntime) {
         ("m", 3, "{", PackError::Width),
         ("m", 0, MANIFEST, PackError::Width),
         ("none", 4, "{", PackError::Manifest(ManifestError::Missing)),
-        ("m", 4, r#"{"n":1.5"#, PackError::Manifest(ManifestError::Syntax)),
-        ("m", 4, r#"{"n":1e400}"#, PackError::Manifest(ManifestError::Syntax)),
-        ("m", 4, r#"{"n":1,"n":-0}"#, PackError::Manifest(ManifestError::Number)),
+        (
+            "m",
+            4,
+            r#"{"n":1.5"#,
+            PackError::Manifest(ManifestError::Syntax),
+        ),
+        (
+            "m",
+            4,
+            r#"{"n":1e400}"#,
+            PackError::Manifest(ManifestError::Syntax),
+        ),
+        (
+            "m",
+            4,
+            r#"{"n":1,"n":-0}"#,
+            PackError::Manifest(ManifestError::Number),
+        ),
         (
             "m",
             4,
@@ -135,18 +150,18 @@ fn files(rt: HostRuntime) {
     }
 }
 
-// The manifest stands behind blanks, so that it has this many bytes.
+// The manifest's 116 bytes stand behind so many blanks.
 #[test]
 fn size_of_a_manifest(rt: HostRuntime) {
-    for (count, wanted) in [(LIMIT, Ok(TEXT)), (LIMIT + 1, Err(PackError::Manifest(ManifestError::TooLong)))] {
-        let mut disk = disk_with(&rt, rt.alloc(), "", NEVER);
-        let blanks = " ".repeat(rt.alloc(), count - MANIFEST.len());
-        let mut manifest = blanks.expect(&rt, "memory");
+    for (blanks, is_long) in [(LIMIT - 116, false), (LIMIT - 115, true)] {
+        let mut manifest = " ".repeat(rt.alloc(), blanks).expect(&rt, "memory");
         manifest.push_str(MANIFEST).expect(&rt, "memory");
-        disk.write_file("long", manifest.as_bytes())
-            .expect(&rt, "memory");
-        let packed = pack(rt.alloc(), &mut disk, "long", 64, LineEnding::LF);
-        assert!(rt; packed.as_ref().map(String::as_str) == wanted.as_ref().copied());
+        let mut disk = disk_with(&rt, rt.alloc(), manifest.as_str(), NEVER);
+        let packed = pack(rt.alloc(), &mut disk, "m", 64, LineEnding::LF);
+        let is_refused = packed == Err(PackError::Manifest(ManifestError::TooLong));
+        assert_eq!(rt; is_refused, is_long);
+        let is_packed = packed.is_ok_and(|text| text.as_str() == TEXT);
+        assert!(rt; is_packed != is_long);
     }
 }
 
