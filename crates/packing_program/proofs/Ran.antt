@@ -1,12 +1,11 @@
 -- What was done for an order.
-use Rattle.std.proofs.Common.{◌≡◌, ◌⊎◌, List, ℕ, Option, inl, inr, subst, sym}
+use Rattle.std.proofs.Common.{◌≡◌, ◌⊎◌, List, ℕ, Option, inl, inr, subst}
 use Rattle.std.specs.Io.KnownBytes.{Appends}
-use Rattle.identity_io.specs.Causes.{Rose}
 use Rattle.identity_io.specs.Whole.{AppendsPrefix}
 use Rattle.identity_commands.specs.declared.status.Status.{Status}
 use Rattle.identity_commands.specs.declared.status.Status.TheVariants.{Done, Refused, Usage, SourceFailed, SinkFailed, OutOfMemory, TooLong, BadScript}
 use Rattle.identity_packing.specs.Packed.{Files}
-use Rattle.packing_program.specs.Run.{Devices, PartlyPrinted, Prints, Runs}
+use Rattle.packing_program.specs.Run.{Devices, PartlyPrinted, Prints, Runs, Stops}
 use Rattle.packing_program.specs.Words.{Order}
 
 abbrev pub devices : Option Files → ℕ → Option (List ℕ) → ℕ → Devices
@@ -15,6 +14,10 @@ devices files read_faults written write_faults = record { files = files; read_fa
 -- an answer's status is not that of faulty words
 pub no_usage : (files : Option Files) (order : Order) (printed : List ℕ) (status : Status) → Prints files order printed status → status ≡ Usage → ⊥
 no_usage files order printed status prints is = subst (λ (s : Status). Prints files order printed s) is prints
+
+-- nor is that of a run without an answer
+pub stops_otherwise : (files : Option Files) (order : Order) (before now : ℕ) (status : Status) → Stops files order before now status → status ≡ Usage → ⊥
+stops_otherwise files order before now status stops is = subst (λ (s : Status). Stops files order before now s) is stops
 
 -- an answer is a text or a line
 one_of_both : (files : Option Files) (order : Order) (printed : List ℕ) (status : Status) → Prints files order printed status
@@ -30,9 +33,15 @@ one_of_both files order printed BadScript prints = absurd prints
 
 module _ (order : Order) (before now : Devices) where
   -- there was no answer
-  pub stopped : (status : Status) → ((status ≡ SourceFailed) × Rose before.read_faults now.read_faults) ⊎ (status ≡ OutOfMemory) → Runs order before now status
-  stopped status (inl h) = subst (λ (s : Status). Runs order before now s) (sym h.0) h.1
-  stopped status (inr h) = subst (λ (s : Status). Runs order before now s) (sym h) tt
+  pub stopped : (status : Status) → Stops before.files order before.read_faults now.read_faults status → Runs order before now status
+  stopped SourceFailed stops = stops
+  stopped OutOfMemory stops = tt
+  stopped Done stops = absurd stops
+  stopped Refused stops = absurd stops
+  stopped Usage stops = absurd stops
+  stopped SinkFailed stops = absurd stops
+  stopped TooLong stops = absurd stops
+  stopped BadScript stops = absurd stops
 
   -- the answer was written
   pub answered : (printed : List ℕ) (status : Status) → Prints before.files order printed status → Appends before.written now.written printed → Runs order before now status

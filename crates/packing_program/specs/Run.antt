@@ -10,6 +10,7 @@ use Rattle.identity_commands.specs.declared.status.Status.TheVariants.{Done, Ref
 use Rattle.identity_packing.specs.Packed.{Files, Packed}
 use Rattle.identity_packing.specs.Text.{IsTextOf}
 use Rattle.identity_packing.specs.declared.error.PackError.{PackError}
+use Rattle.identity_packing.specs.declared.error.PackError.TheVariants.{Fault}
 use Rattle.identity_update.specs.Parts.{UpdateParts}
 use Rattle.packing_program.specs.Refusal.{IsRule, pack_line}
 use Rattle.packing_program.specs.Words.{Order}
@@ -36,12 +37,18 @@ abbrev pub PartlyPrinted : Order → Devices → Devices → Type 0
 PartlyPrinted order before now =
     (printed : List ℕ) × (Prints before.files order printed Done ⊎ Prints before.files order printed Refused) × AppendsPrefix before.written now.written printed
 
+-- why there is nothing to print: the disk failed before a rule was found broken, or memory was wanted, which is free
+abbrev pub Stops : Option Files → Order → ℕ → ℕ → Status → Type 0
+Stops files order before now SourceFailed = Rose before now × ForSome files (λ known. Packed known order.manifest order.width (Err Fault))
+Stops files order before now OutOfMemory = Unit {0}
+Stops files order before now _ = ⊥
+
 -- what `run` has done for an order, by its status
 abbrev pub Runs : Order → Devices → Devices → Status → Type 0
 Runs order before now Done = Printed order before now Done
 Runs order before now Refused = Printed order before now Refused
 Runs order before now Usage = ⊥
-Runs order before now SourceFailed = Rose before.read_faults now.read_faults
+Runs order before now SourceFailed = Stops before.files order before.read_faults now.read_faults SourceFailed
 Runs order before now SinkFailed = Rose before.write_faults now.write_faults × PartlyPrinted order before now
 Runs order before now OutOfMemory = Unit {0}
 Runs order before now TooLong = ⊥

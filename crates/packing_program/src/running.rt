@@ -1,10 +1,9 @@
 //! Packing for an order.
-ghost use Rattle.std.specs.Prelude.{◌≡◌, ◌≢◌, ◌≤◌, ◌⊎◌, ◌↔◌, IfErr, IfOk};
+ghost use Rattle.std.specs.Prelude.{◌≡◌, ◌≢◌, ◌≤◌, ◌↔◌, IfErr, IfOk};
 ghost use Rattle.identity_commands.specs.Outcome.{Calm, IsCalm, IsUntouched};
 ghost use Rattle.identity_commands.specs.declared.status.Status.{Status};
-ghost use Rattle.identity_io.specs.Causes.{Rose};
 ghost use Rattle.identity_program.specs.Words.{texts};
-ghost use Rattle.packing_program.specs.Run.{Prints, Runs};
+ghost use Rattle.packing_program.specs.Run.{Prints, Runs, Stops};
 ghost use Rattle.packing_program.specs.Views.{order_of};
 ghost use Rattle.packing_program.specs.Words.{IsCommand, IsUsage, Order};
 
@@ -26,7 +25,7 @@ struct Answer {
 // The answer to an order, or how the run ends without one.
 fn answer_to<D: Disk>(alloc: Global, command: &Command<'_>, disk: &mut D) -> Result<Answer, Status>
     ensures answer { IfOk result (λ a. Prints (D.files disk.old) (order_of command.now) a.printed.items a.status) }
-    ensures stopped { IfErr result (λ status. ((status ≡ Status.SourceFailed) × Rose (D.faults disk.old) (D.faults disk.new)) ⊎ (status ≡ Status.OutOfMemory)) }
+    ensures stops { IfErr result (λ status. Stops (D.files disk.old) (order_of command.now) (D.faults disk.old) (D.faults disk.new) status) }
     ensures kept { D.files disk.new ≡ D.files disk.old }
     ensures later { D.faults disk.old ≤ D.faults disk.new }
 {

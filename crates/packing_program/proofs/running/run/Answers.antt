@@ -1,19 +1,13 @@
-use Rattle.std.proofs.Common.{List, ℕ, inl, inr, subst, ◌≡◌, ◌⊎◌}
+use Rattle.std.proofs.Common.{List, ℕ, subst}
 use Rattle.std.specs.Io.KnownBytes.{Appends}
-use Rattle.identity_commands.specs.declared.status.Status.{Status}
-use Rattle.identity_commands.specs.declared.status.Status.TheVariants.{Usage, SourceFailed, OutOfMemory}
 use Rattle.identity_io.specs.Whole.{AppendsPrefix}
 use Rattle.packing_program.specs.Views.{order_of}
-use Rattle.packing_program.proofs.Ran.{answered, devices, no_usage, partly, stopped}
+use Rattle.packing_program.proofs.Ran.{answered, devices, no_usage, partly, stopped, stops_otherwise}
 use Rattle.packing_program.proofs.running.run.Goals as goal
-
-stopped_otherwise : {R : Type 0} (status : Status) → ((status ≡ SourceFailed) × R) ⊎ (status ≡ OutOfMemory) → status ≡ Usage → ⊥
-stopped_otherwise status (inl h) is = let why : status ≡ SourceFailed = h.0 in cc
-stopped_otherwise status (inr h) is = cc
 
 pub returns-in-Err-clause-usage : goal.returns-in-Err-clause-usage
 returns-in-Err-clause-usage g c =
-    (λ is. absurd (stopped_otherwise c.in-Err.status c.in-Err.ensures.stopped is), λ none. absurd (none (order_of c.in-Some.command) c.in-Some.ensures.some))
+    (λ is. absurd (stops_otherwise _ (order_of c.in-Some.command) _ _ c.in-Err.status c.in-Err.ensures.stops is), λ none. absurd (none (order_of c.in-Some.command) c.in-Some.ensures.some))
 
 pub returns-in-Err-clause-runs : goal.returns-in-Err-clause-runs
 returns-in-Err-clause-runs g c = λ other. (
@@ -21,7 +15,7 @@ returns-in-Err-clause-runs g c = λ other. (
   c.in-Some.ensures.some,
   stopped (order_of c.in-Some.command) (devices (g.D.Disk.files c.args.disk.now) (g.D.Disk.faults c.args.disk.now) (g.K.Sink.written c.args.out.now) (g.K.Sink.faults c.args.out.now))
       (devices (g.D.Disk.files c.answer_to.new.disk) (g.D.Disk.faults c.answer_to.new.disk) (g.K.Sink.written c.args.out.now) (g.K.Sink.faults c.args.out.now))
-      c.in-Err.status c.in-Err.ensures.stopped,
+      c.in-Err.status c.in-Err.ensures.stops,
 )
 
 pub returns-in-Ok-write_all-clause-usage : goal.returns-in-Ok-write_all-clause-usage
