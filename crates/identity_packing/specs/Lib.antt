@@ -4,3 +4,4 @@ pub mod KeyFiles
 pub mod Packed
 pub mod Tries
 pub mod Text
+pub mod OneAnswer

@@ -10,6 +10,7 @@ mod bundles;
 mod entries;
 mod error;
 mod files;
+pub mod laws;
 mod packing;
 
 pub use error::{FileError, PackError};

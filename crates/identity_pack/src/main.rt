@@ -1,0 +1,8 @@
+//! `identity_pack`: packs the key files that a manifest names into the text of an update.
+#![tactic(auto)]
+
+use std::process::ExitCode;
+
+fn main(rt: HostRuntime) -> ExitCode {
+    packing_program::run_program(&rt)
+}

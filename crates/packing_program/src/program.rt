@@ -1,0 +1,36 @@
+//! The program's edge: its words, its files and standard output, and what it says to a person.
+ghost use Rattle.std.specs.Prelude.{◌≤◌, ◌↔◌, IsNone};
+ghost use Rattle.identity_commands.specs.Status.{status_number};
+
+use crate::running::run;
+use identity_commands::Status;
+use identity_io::{StdDisk, StdSink};
+use identity_program::{unread, words_of};
+use std::io;
+use std::process::ExitCode;
+
+// What a person at the terminal is told, none where the output says it.
+fn notice(status: Status) -> Option<&'static str>
+    ensures { IsNone result ↔ (status_number status ≤ 1) }
+{
+    match status {
+        Status::Usage => Some("usage: identity_pack pack MANIFEST WIDTH"),
+        Status::SourceFailed => Some("a file could not be read"),
+        other => other.notice(),
+    }
+}
+
+/// Packs the key files that a manifest names to standard output, and gives the exit status. Where it is above 1, one
+/// line on standard error says what it means; a failure there changes nothing.
+pub fn run_program(rt: &HostRuntime) -> ExitCode {
+    let mut disk = StdDisk::new(rt);
+    let mut out = StdSink::new(io::writer(rt));
+    let status = match words_of(rt) {
+        Ok(words) => run(rt.alloc(), &words, &mut disk, &mut out),
+        Err(error) => unread(error.kind()),
+    };
+    if let Some(notice) = notice(status) {
+        let _ = eprintln!(rt; "identity_pack: {notice}");
+    }
+    ExitCode::from(status.number())
+}
