@@ -4,7 +4,8 @@ ghost use Rattle.identity_commands.specs.Status.{status_number};
 
 use identity_io::ReadError;
 
-const USAGE: &str = "usage: identity_tool show WIDTH < UPDATE, serve WIDTH < SCRIPT or make N";
+const USAGE: &str =
+    "usage: identity_tool show WIDTH < UPDATE, serve WIDTH < SCRIPT, watch WIDTH WORKERS < SCRIPT or make N";
 
 /// How a command ended.
 #[derive(Clone, Copy, Debug, PartialEq, Eq)]
@@ -63,7 +64,7 @@ impl Status {
             Status::OutOfMemory => Some("no memory was left"),
             Status::TooLong => {
                 Some(
-                    "the input has an update of more than 16777216 bytes, or more than 10000 requests",
+                    "the input has an update of more than 16777216 bytes, under watch updates of more than that together, or more than 10000 requests",
                 )
             }
             Status::BadScript => {
