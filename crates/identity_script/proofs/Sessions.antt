@@ -30,7 +30,7 @@ pub rose_from : (a b c : ℕ) → a ≤ b → Rose b c → Rose a c
 rose_from a b c low rose = omega (arith, low, rose)
 
 -- one more request is answered
-replies_snoc : (width : ℕ) (list : List PlainState) (qs : List PlainRequest) (mid list' : List PlainState) (text reply : List ℕ) (q : PlainRequest)
+pub replies_snoc : (width : ℕ) (list : List PlainState) (qs : List PlainRequest) (mid list' : List PlainState) (text reply : List ℕ) (q : PlainRequest)
     → AreReplies width list qs mid text → IsReply width mid q list' reply → AreReplies width list (qs ++ q ∷ []) list' (text ++ reply)
 replies_snoc width list [] mid list' text reply q (same, none) r =
     (list', (reply, ([], (subst (λ (l : List PlainState). IsReply width l q list' reply) same r, (refl, refl), ap (λ l. l ++ reply) none ∙ sym (append-nil reply)))))

@@ -37,8 +37,8 @@ abbrev pub IsAsked : Option (List ℕ) → List PlainRequest → List Query → 
 IsAsked left updates queries = IfSome left (λ bytes. (requests : List PlainRequest) × (WatchScript bytes requests Done × ((updates ≡ updates_of requests) × (queries ≡ queries_of requests))))
 
 -- the input is a script with this ending
-abbrev pub EndsWith : Option (List ℕ) → Ending → Type 0
-EndsWith left ending = IfSome left (λ bytes. (requests : List PlainRequest) × WatchScript bytes requests ending)
+abbrev pub IsScript : Option (List ℕ) → Ending → Type 0
+IsScript left ending = IfSome left (λ bytes. (requests : List PlainRequest) × WatchScript bytes requests ending)
 
 -- why the script was not read to a good end
 abbrev pub IsUnread : Option (List ℕ) → ℕ → ℕ → Status → Type 0
@@ -48,8 +48,8 @@ IsUnread left before now status.Usage = ⊥
 IsUnread left before now status.SourceFailed = Rose before now
 IsUnread left before now status.SinkFailed = ⊥
 IsUnread left before now status.OutOfMemory = Unit {0}
-IsUnread left before now status.TooLong = EndsWith left TooLong
-IsUnread left before now status.BadScript = EndsWith left BadScript
+IsUnread left before now status.TooLong = IsScript left TooLong
+IsUnread left before now status.BadScript = IsScript left BadScript
 
 -- so far these requests were taken, and so much room is left for the next update
 pub record Gathered (start now : Option (List ℕ)) (count most : ℕ) (updates : List PlainRequest) (queries : List Query) : Type 0 where

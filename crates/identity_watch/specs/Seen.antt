@@ -18,8 +18,12 @@ pub record IsSeen (least count : ℕ) (revisions : List ℕ) : Type 0 where
   pub many : length revisions ≡ count
   pub rise : Rises least revisions
 
--- a worker's job: its reader has come to this list, and it has room for so many revisions
-pub record IsReady (list : List PlainState) (count : ℕ) (job : Job) : Type 0 where
-  pub at : job.reader.list ≡ list
+-- a worker has seen nothing, and has room for so many revisions
+pub record HasRoom (count : ℕ) (job : Job) : Type 0 where
   pub empty : vec_len job.seen ≡ 0
   pub room : count ≤ vec_capacity job.seen
+
+-- besides, its reader has come to this list
+pub record IsReady (list : List PlainState) (count : ℕ) (job : Job) : Type 0 where
+  pub at : job.reader.list ≡ list
+  pub room : HasRoom count job

@@ -9,7 +9,7 @@ use Rattle.identity_commands.specs.declared.status.Status.TheVariants.{Done, Ref
 use Rattle.identity_script.specs.Request.{PlainRequest}
 use Rattle.identity_script.specs.Script.{WatchScript}
 use Rattle.identity_script.specs.declared.request.Ending.TheVariants as ending
-use Rattle.identity_watch.specs.Asked.{EndsWith}
+use Rattle.identity_watch.specs.Asked.{IsScript}
 use Rattle.identity_watch.specs.WatchText.{WatchText}
 
 -- the input is a script that ends with `end`, and a text that `watch` may write for it was written and nothing else
@@ -34,8 +34,8 @@ Watches width workers before now Usage = ⊥
 Watches width workers before now SourceFailed = Rose before.read_faults now.read_faults × WroteNothing before now
 Watches width workers before now SinkFailed = Rose before.write_faults now.write_faults × WatchedFirst width workers before now
 Watches width workers before now OutOfMemory = WroteNothing before now
-Watches width workers before now TooLong = EndsWith before.left ending.TooLong × WroteNothing before now
-Watches width workers before now BadScript = EndsWith before.left ending.BadScript × WroteNothing before now
+Watches width workers before now TooLong = IsScript before.left ending.TooLong × WroteNothing before now
+Watches width workers before now BadScript = IsScript before.left ending.BadScript × WroteNothing before now
 
 -- the input is a script that ends with `end`, as `watch` reads it
 abbrev pub EndsWell : Option (List ℕ) → Type 0

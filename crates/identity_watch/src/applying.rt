@@ -8,6 +8,7 @@ ghost use Rattle.identity_watch.specs.Asked.{updates_in};
 use crate::gate::Gate;
 use identity_commands::refusal_text;
 use identity_script::accepted_text;
+use identity_source::laws::states_are_told_by_revision;
 use identity_source::{IdentitySource, Snapshot};
 use std::alloc::{AllocError, Global};
 use std::sync::Wait;
@@ -36,6 +37,7 @@ impl Applied {
         ensures kept { IfOk result (λ applied. IsKept source.now.list applied.states.items) }
         ensures replies { IfOk result (λ applied. applied.replies.items ≡ []) }
     {
+        states_are_told_by_revision();
         let mut states = Vec::new(alloc);
         states.push(share(source.latest())?)?;
         Ok(Applied {
@@ -59,6 +61,7 @@ impl Applied {
         ensures kept { OnOk result (IsKept source.new.list self.new.states.items) }
         ensures name { source.new.name ≡ source.old.name }
     {
+        states_are_told_by_revision();
         match source.apply(rt, text, width) {
             Ok(receipt) => {
                 self.states.push(share(receipt.snapshot())?)?;

@@ -5,7 +5,7 @@ ghost use Rattle.identity_commands.specs.Outcome.{Calm};
 ghost use Rattle.identity_commands.specs.declared.status.Status.TheVariants as status;
 ghost use Rattle.identity_watch.specs.Applied.{HaveReplies, IsKept};
 ghost use Rattle.identity_watch.specs.Asked.{updates_in};
-ghost use Rattle.identity_watch.specs.Seen.{IsReady};
+ghost use Rattle.identity_watch.specs.Seen.{HasRoom, IsReady};
 ghost use Rattle.identity_watch.specs.WatchText.{IsWatched, WorksOn};
 ghost use Rattle.identity_watch.specs.Watching.{EndsWell, Watches};
 
@@ -43,7 +43,9 @@ fn work_beside<R: Threads + Wait + Sync, G: Gate + Sync>(
     let count = queries.len();
     let (seen, applied) = thread::join(
         rt,
-        || work_all(rt, gate, jobs, count),
+        || -> Result<Vec<Vec<u64>>, AllocError>
+            requires { All (HasRoom count) jobs.items }
+        { work_all(rt, gate, jobs, count) },
         || apply_rest(rt, alloc, width, gate, source, applied, texts),
     );
     let Applied {

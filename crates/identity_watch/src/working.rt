@@ -1,9 +1,9 @@
 //! The workers: each has a reader of its own.
-ghost use Rattle.std.specs.Prelude.{◌≡◌, ◌≤◌, ◌<◌, ◌∷◌, [], ℕ, All, IfOk, false, slice_index_or, vec_capacity, vec_len};
+ghost use Rattle.std.specs.Prelude.{◌≡◌, ◌≤◌, ◌<◌, ◌∷◌, [], ℕ, All, IfOk, false, slice_index_or, vec_len};
 ghost use Rattle.identity_source.specs.History.{last_revision};
 ghost use Rattle.identity_source.specs.State.{opening};
 ghost use Rattle.identity_watch.specs.Applied.{IsList};
-ghost use Rattle.identity_watch.specs.Seen.{IsReady, IsSeen};
+ghost use Rattle.identity_watch.specs.Seen.{HasRoom, IsReady, IsSeen};
 
 use crate::gate::Gate;
 use identity_source::{IdentityReader, IdentitySource};
@@ -87,8 +87,7 @@ fn look(reader: &mut IdentityReader) -> u64
 
 // What the worker sees at each query.
 fn look_all<G: Gate>(gate: &G, job: Job, queries: usize) -> Vec<u64>
-    requires empty { vec_len job.seen ≡ 0 }
-    requires room { queries ≤ vec_capacity job.seen }
+    requires { HasRoom queries job }
     ensures { IsSeen (last_revision job.reader.list) queries result.items }
 {
     let Job {
@@ -110,7 +109,7 @@ pub(crate) fn work_all<R: Threads + Sync, G: Gate + Sync>(
     jobs: Vec<Job>,
     queries: usize,
 ) -> Result<Vec<Vec<u64>>, AllocError>
-    requires { All (λ j. (vec_len j.seen ≡ 0) × (queries ≤ vec_capacity j.seen)) jobs.items }
+    requires { All (HasRoom queries) jobs.items }
     ensures len { IfOk result (λ all. vec_len all ≡ vec_len jobs) }
     ensures each { IfOk result (λ all. (i : ℕ) (d : _) (j : _) → i < vec_len jobs → IsSeen (last_revision (slice_index_or jobs.items i j).reader.list) queries (slice_index_or all.items i d).items) }
 {
@@ -118,7 +117,7 @@ pub(crate) fn work_all<R: Threads + Sync, G: Gate + Sync>(
         rt,
         jobs,
         &|job: Job| -> Vec<u64>
-            requires { (vec_len job.seen ≡ 0) × (queries ≤ vec_capacity job.seen) }
+            requires { HasRoom queries job }
             ensures { IsSeen (last_revision job.reader.list) queries result.items }
         { look_all(gate, job, queries) },
     )
