@@ -208,12 +208,7 @@ fn watches(rt: HostRuntime) {
     let mut room = [0u8; 100];
     for (workers, script, status, printed) in [
         ("1", "svid\nend\n", Status::Done, "worker 0\nsvid 0 none\n"),
-        (
-            "2",
-            "end\n",
-            Status::Done,
-            "worker 0\nworker 1\n",
-        ),
+        ("2", "end\n", Status::Done, "worker 0\nworker 1\n"),
         ("8", "svid\nhello\n", Status::BadScript, ""),
     ] {
         let outcome = run_in(

@@ -1,6 +1,7 @@
 -- Lists of states whose revisions count from 0, and what applying does to them.
-use Rattle.std.proofs.Common.{◌≡◌, ℕ, zero, suc, ◌+◌, ◌<◌, ◌≤◌, ◌⊎◌, inl, inr, List, length, [], ◌∷◌, ◌++◌, get_or, refl, sym, ◌∙◌, ap, subst, arith, append_assoc, length-append}
+use Rattle.std.proofs.Common.{◌≡◌, ℕ, zero, suc, ◌+◌, ◌<◌, ◌≤◌, ◌⊎◌, inl, inr, List, length, [], ◌∷◌, ◌++◌, get_or, cond, Result, Ok, Err, refl, sym, ◌∙◌, ap, subst, arith, append_assoc, length-append}
 use Rattle.std.proofs.lemmas.List.{append-nil}
+use Rattle.std.specs.Prelude.{OnOk, is_ok}
 use Rattle.identity_source.specs.State.{PlainState, opening}
 use Rattle.identity_source.specs.History.{Follows, IsHistory, StartsWith, EndsWith, first_revision, last_from, last_revision}
 use Rattle.identity_source.proofs.Histories.{ends_at}
@@ -85,3 +86,8 @@ one_answered width list updates mid list' before now now' text reply p a e =
 -- what one state more says of the last
 pub ends_one : (xs ys : List PlainState) (x y : PlainState) → ys ≡ xs ++ x ∷ [] → EndsWith ys y → ((z w : PlainState) → EndsWith ys z → EndsWith ys w → w ≡ z) → xs ++ y ∷ [] ≡ ys
 ends_one xs ys x y is ends law = ap (λ z. xs ++ z ∷ []) (law x y (xs, is) ends) ∙ sym is
+
+-- what was appended, where it was
+pub on_ok : {V E : Type 0} (r : Result V E) (now before reply : List ℕ) (P : List ℕ → Type 0) → now ≡ cond (is_ok r) (before ++ reply) before → P reply → OnOk r ((x : List ℕ) × (P x × (now ≡ before ++ x)))
+on_ok (Ok v) now before reply P e p = (reply, (p, e))
+on_ok (Err error) now before reply P e p = tt

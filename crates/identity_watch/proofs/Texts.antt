@@ -30,12 +30,12 @@ EachSaw jobs count all = (i : ℕ) (d : Vec ℕ Global) (j : Job) → i < length
 
 length-lists : (all : List (Vec ℕ Global)) → length (lists_of all) ≡ length all
 length-lists [] = refl
-length-lists (a ∷ as) = ap suc (length-lists as)
+length-lists (a ∷ more) = ap suc (length-lists more)
 
 lists_at : (all : List (Vec ℕ Global)) (k : ℕ) (d : Vec ℕ Global) (e : List ℕ) → k < length all → get_or (lists_of all) k e ≡ (get_or all k d).items
 lists_at [] k d e low = absurd (omega arith)
-lists_at (a ∷ as) zero d e low = refl
-lists_at (a ∷ as) (suc k) d e low = lists_at as k d e (omega arith)
+lists_at (a ∷ more) zero d e low = refl
+lists_at (a ∷ more) (suc k) d e low = lists_at more k d e (omega arith)
 
 -- each saw what its reader may give from the list on
 one_saw : (list : List PlainState) (count : ℕ) (jobs : List Job) (all : List (Vec ℕ Global)) (k : ℕ) (d : Vec ℕ Global) → All (IsReady list count) jobs → EachSaw jobs count all → k < length jobs
@@ -48,9 +48,9 @@ one_saw list count (j ∷ js) all k d ready each low =
 pub all_saw : (list : List PlainState) (count : ℕ) (jobs : List Job) (all : List (Vec ℕ Global)) → All (IsReady list count) jobs → EachSaw jobs count all → length all ≡ length jobs
     → All (IsSeen (last_revision list) count) (lists_of all)
 all_saw list count jobs [] ready each many = λ k e low. absurd (omega (arith, low))
-all_saw list count jobs (a ∷ as) ready each many = λ k e low.
-    let inside : k < length (a ∷ as) = omega (arith, low, length-lists (a ∷ as)) in
-    subst (λ (l : List ℕ). IsSeen (last_revision list) count l) (sym (lists_at (a ∷ as) k a e inside)) (one_saw list count jobs (a ∷ as) k a ready each (omega (arith, inside, many)))
+all_saw list count jobs (a ∷ more) ready each many = λ k e low.
+    let inside : k < length (a ∷ more) = omega (arith, low, length-lists (a ∷ more)) in
+    subst (λ (l : List ℕ). IsSeen (last_revision list) count l) (sym (lists_at (a ∷ more) k a e inside)) (one_saw list count jobs (a ∷ more) k a ready each (omega (arith, inside, many)))
 
 -- each saw as often as there are queries
 pub all_many : (list : List PlainState) (count : ℕ) (jobs : List Job) (all : List (Vec ℕ Global)) → All (IsReady list count) jobs → EachSaw jobs count all → length all ≡ length jobs

@@ -108,9 +108,7 @@ fn answer_by<R: Threads + Wait + Sync, G: Gate + Sync>(
         first,
         queries.len(),
     )?;
-    work_beside(
-        rt, alloc, width, gate, source, applied, jobs, rest, queries,
-    )
+    work_beside(rt, alloc, width, gate, source, applied, jobs, rest, queries)
 }
 
 // The text that is written.

@@ -30,8 +30,12 @@ fn watch_in<R: Abort + Threads + Wait + Sync>(
 
 #[test]
 fn scripts(rt: HostRuntime) {
-    let answered = format!(in rt.alloc(); "{GRANTED}svid\nbundle example.org\nend\nmore").expect(&rt, "memory");
-    let later = format!(in rt.alloc(); "bundle EXAMPLE.org\nupdate 0\n\n{GRANTED}end\n").expect(&rt, "memory");
+    let answered = format!(in rt.alloc(); "{GRANTED}svid\nbundle example.org\nend\nmore").expect(
+        &rt, "memory",
+    );
+    let later = format!(in rt.alloc(); "bundle EXAMPLE.org\nupdate 0\n\n{GRANTED}end\n").expect(
+        &rt, "memory",
+    );
     let later_reply = "refused: text: invalid Base64 length\naccepted 1\nworker 0\nbundle ";
     let lone = format!(in rt.alloc(); "svid\n{GRANTED}end\n").expect(&rt, "memory");
     let lone_reply =
@@ -40,8 +44,16 @@ fn scripts(rt: HostRuntime) {
     for (script, status, written) in [
         (answered.as_bytes(), Status::Done, ANSWERS),
         (lone.as_bytes(), Status::Done, lone_reply),
-        (b"svid\nend\n", Status::Done, "worker 0\nsvid 0 none\nworker 1\nsvid 0 none\n"),
-        (b"update 0\n\nend\n", Status::Done, "refused: text: invalid Base64 length\nworker 0\nworker 1\n"),
+        (
+            b"svid\nend\n",
+            Status::Done,
+            "worker 0\nsvid 0 none\nworker 1\nsvid 0 none\n",
+        ),
+        (
+            b"update 0\n\nend\n",
+            Status::Done,
+            "refused: text: invalid Base64 length\nworker 0\nworker 1\n",
+        ),
         (b"end\n", Status::Done, "worker 0\nworker 1\n"),
         (b"", Status::BadScript, ""),
         (b"svid\n", Status::BadScript, ""),
@@ -62,7 +74,9 @@ fn scripts(rt: HostRuntime) {
 
 #[test]
 fn faults(rt: HostRuntime) {
-    let script = format!(in rt.alloc(); "{GRANTED}svid\nbundle example.org\nend\n").expect(&rt, "memory");
+    let script = format!(in rt.alloc(); "{GRANTED}svid\nbundle example.org\nend\n").expect(
+        &rt, "memory",
+    );
     let faults: [(&[u64], &[u64], Status, usize); 5] = [
         (&[0], &[], Status::SourceFailed, 0),
         (&[32], &[], Status::SourceFailed, 0),
@@ -72,7 +86,13 @@ fn faults(rt: HostRuntime) {
     ];
     for (reads, writes, status, written) in faults {
         let mut room = [0u8; 200];
-        let outcome = watch_in(&rt, rt.alloc(), script.as_bytes(), (reads, writes), &mut room);
+        let outcome = watch_in(
+            &rt,
+            rt.alloc(),
+            script.as_bytes(),
+            (reads, writes),
+            &mut room,
+        );
         assert_eq!(rt; outcome, (status, written));
     }
 }

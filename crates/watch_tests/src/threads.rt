@@ -54,7 +54,10 @@ fn two_flags(rt: HostRuntime) {
     let mut room = [0u8; 100];
     let mut out = MemorySink::new(&mut room, &[], 100);
     let status = watch(&rt, rt.alloc(), 64, 2, &gate, &mut input, &mut out);
-    assert_eq!(rt; (status, gate.missed.load(Ordering::SeqCst)), (Status::Done, 0));
+    assert_eq!(rt;
+        (status, gate.missed.load(Ordering::SeqCst)),
+        (Status::Done, 0)
+    );
     assert!(rt;
         out.written()
             == b"worker 0\nsvid 0 none\nsvid 0 none\nworker 1\nsvid 0 none\nsvid 0 none\n".as_slice()
@@ -105,7 +108,10 @@ end
     let mut room = [0u8; 100];
     let mut out = MemorySink::new(&mut room, &[], 100);
     let status = watch(&rt, rt.alloc(), 64, 1, &gate, &mut input, &mut out);
-    assert_eq!(rt; (status, gate.missed.load(Ordering::SeqCst)), (Status::Done, 0));
+    assert_eq!(rt;
+        (status, gate.missed.load(Ordering::SeqCst)),
+        (Status::Done, 0)
+    );
     assert!(rt;
         out.written()
             == b"accepted 1\naccepted 2\nworker 0\nsvid 2 spiffe://example.org/a\n".as_slice()

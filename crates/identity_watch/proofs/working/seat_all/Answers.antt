@@ -3,6 +3,7 @@ use Rattle.std.proofs.lemmas.List.Elements.{All-push}
 use Rattle.std.specs.Prelude.{Vec}
 use Rattle.std.specs.Global.{Global}
 use Rattle.identity_source.specs.State.{opening}
+use Rattle.identity_source.specs.Reader.{PlainReader}
 use Rattle.identity_watch.specs.Seen.{HasRoom, IsReady}
 use Rattle.identity_watch.specs.declared.working.Job.{Job}
 use Rattle.identity_watch.proofs.Told.{all_front}
@@ -22,7 +23,7 @@ loop-reader-preserved c =
     } in
     record {
       count = omega (arith, inv.count, c.in-Some.ensures.cases, c.in_ok-push.ensures.len);
-      opened = all_front _ _ _ _ c.in-Some.ensures.items inv.opened;
+      opened = all_front (λ (r : PlainReader). (r.sight.name ≡ c.args.source.now.name) × (r.list ≡ opening 0 ∷ [])) _ _ _ c.in-Some.ensures.items inv.opened;
       ready = subst (λ (js : List Job). All (IsReady c.args.source.now.list c.args.queries) js) (sym c.in_ok-push.ensures.items)
           (All-push (IsReady c.args.source.now.list c.args.queries) c.loop-reader.jobs.items job inv.ready ready);
       same = c.seat.ensures.same ∙ inv.same;
