@@ -2,6 +2,7 @@
 ghost use Rattle.std.specs.Prelude.{◌≡◌, ◌≤◌, ◌<◌, ◌++◌, All, IfOk, OnOk, length, map, vec_len};
 ghost use Rattle.identity_watch.specs.WatchText.{answers_at, query_reply, state_at, worker_line, workers_at};
 
+use crate::applying::Applied;
 use crate::asked::Query;
 use identity_script::{bundle_text, svid_text};
 use identity_source::Snapshot;
@@ -52,8 +53,8 @@ fn push_line(text: &mut Vec<u8>, alloc: Global, number: usize) -> Result<(), All
     text.extend_from_slice(line.as_bytes())
 }
 
-/// Appends each worker with its replies, from worker 0 on.
-pub(crate) fn push_workers(
+// Appends each worker with its replies, from worker 0 on.
+fn push_workers(
     text: &mut Vec<u8>,
     alloc: Global,
     queries: &[Query],
@@ -69,4 +70,25 @@ pub(crate) fn push_workers(
         push_answers(text, alloc, queries, states, revisions)?;
     }
     Ok(())
+}
+
+impl Applied {
+    /// The replies to the updates, and behind them the workers.
+    pub(crate) fn with_workers(
+        self,
+        alloc: Global,
+        queries: &[Query],
+        seen: &[Vec<u64>],
+    ) -> Result<Vec<u8>, AllocError>
+        requires some { 0 < length self.states.items }
+        requires each { All (λ revisions. vec_len revisions ≡ length queries.now) seen.now }
+        ensures { IfOk result (λ text. text.items ≡ self.replies.items ++ workers_at self.states.items queries.now (map (λ revisions. revisions.items) seen.now) (length seen.now)) }
+    {
+        let Applied {
+            states,
+            mut replies,
+        } = self;
+        push_workers(&mut replies, alloc, queries, &states, seen)?;
+        Ok(replies)
+    }
 }

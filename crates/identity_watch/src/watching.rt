@@ -1,11 +1,12 @@
 //! The call.
-ghost use Rattle.std.specs.Prelude.{◌≡◌, ◌≤◌, ◌⊎◌, ◌∷◌, [], All, IfOk, length, vec_len};
+ghost use Rattle.std.specs.Prelude.{◌≡◌, ◌≤◌, ◌<◌, ◌⊎◌, ◌∷◌, [], ℕ, All, IfOk, length, slice_index_or, vec_len};
+ghost use Rattle.identity_source.specs.History.{last_revision};
 ghost use Rattle.identity_source.specs.State.{opening};
 ghost use Rattle.identity_commands.specs.Outcome.{Calm};
 ghost use Rattle.identity_commands.specs.declared.status.Status.TheVariants as status;
-ghost use Rattle.identity_watch.specs.Applied.{HaveReplies, IsKept};
+ghost use Rattle.identity_watch.specs.Applied.{HaveReplies, IsKept, IsList};
 ghost use Rattle.identity_watch.specs.Asked.{updates_in};
-ghost use Rattle.identity_watch.specs.Seen.{HasRoom, IsReady};
+ghost use Rattle.identity_watch.specs.Seen.{HasRoom, IsReady, IsSeen};
 ghost use Rattle.identity_watch.specs.WatchText.{IsWatched, WorksOn};
 ghost use Rattle.identity_watch.specs.Watching.{EndsWell, Watches};
 
@@ -13,7 +14,6 @@ use crate::applying::{Applied, apply_rest};
 use crate::asked::{Asked, Query};
 use crate::gate::Gate;
 use crate::gathering::gather;
-use crate::lines::push_workers;
 use crate::working::{Job, seat_all, work_all};
 use identity_commands::Status;
 use identity_io::{Sink, Source, write_all};
@@ -23,6 +23,37 @@ use std::alloc::{AllocError, Global};
 use std::sync::Wait;
 use std::thread;
 use std::thread::Threads;
+
+// What the workers saw, and what applying the rest of the updates has come to.
+fn side_by_side<R: Threads + Wait + Sync, G: Gate + Sync>(
+    rt: &R,
+    alloc: Global,
+    width: usize,
+    gate: &G,
+    source: &mut IdentitySource,
+    applied: Applied,
+    jobs: Vec<Job>,
+    texts: &[Vec<u8>],
+    count: usize,
+) -> (
+    Result<Vec<Vec<u64>>, AllocError>,
+    Result<Applied, AllocError>,
+)
+    requires kept { IsKept source.old.list applied.states.items }
+    requires ready { All (HasRoom count) jobs.items }
+    ensures many { IfOk result.0 (λ all. vec_len all ≡ vec_len jobs) }
+    ensures each { IfOk result.0 (λ all. (i : ℕ) (d : _) (j : _) → i < vec_len jobs → IsSeen (last_revision (slice_index_or jobs.items i j).reader.list) count (slice_index_or all.items i d).items) }
+    ensures replies { IfOk result.1 (λ done. HaveReplies width source.old.list (updates_in texts.now) done.states.items applied.replies.items done.replies.items) }
+    ensures list { IfOk result.1 (λ done. IsList done.states.items) }
+{
+    thread::join(
+        rt,
+        || -> Result<Vec<Vec<u64>>, AllocError>
+            requires { All (HasRoom count) jobs.items }
+        { work_all(rt, gate, jobs, count) },
+        || apply_rest(rt, alloc, width, gate, source, applied, texts),
+    )
+}
 
 // Lets the workers see what they see while the rest of the updates is applied.
 fn work_beside<R: Threads + Wait + Sync, G: Gate + Sync>(
@@ -40,20 +71,20 @@ fn work_beside<R: Threads + Wait + Sync, G: Gate + Sync>(
     requires ready { All (IsReady source.old.list (length queries.now)) jobs.items }
     ensures { IfOk result (λ text. WorksOn width (vec_len jobs) source.old.list (updates_in texts.now) queries.now applied.replies.items text.items) }
 {
-    let count = queries.len();
-    let (seen, applied) = thread::join(
+    let (seen, applied) = side_by_side(
         rt,
-        || -> Result<Vec<Vec<u64>>, AllocError>
-            requires { All (HasRoom count) jobs.items }
-        { work_all(rt, gate, jobs, count) },
-        || apply_rest(rt, alloc, width, gate, source, applied, texts),
+        alloc,
+        width,
+        gate,
+        source,
+        applied,
+        jobs,
+        texts,
+        queries.len(),
     );
-    let Applied {
-        states,
-        mut replies,
-    } = applied?;
-    push_workers(&mut replies, alloc, queries, &states, &seen?)?;
-    Ok(replies)
+    let seen = seen?;
+    let applied = applied?;
+    applied.with_workers(alloc, queries, &seen)
 }
 
 // Applies the first update, and makes the workers ready.
