@@ -16,7 +16,8 @@ with_workers-requires-clause-some g c =
 pub with_workers-requires-clause-each : goal.with_workers-requires-clause-each
 with_workers-requires-clause-each g c =
     let count = rw c.in_ok-seen.was at c.side_by_side-seen.ensures.many in
-    let each : EachSaw c.args.jobs.items (length c.args.queries.now) c.in_ok-seen.seen.items = rw c.in_ok-seen.was at c.side_by_side-seen.ensures.each in
+    let saw = rw c.in_ok-seen.was at c.side_by_side-seen.ensures.each in
+    let each : EachSaw c.args.jobs.items (length c.args.queries.now) c.in_ok-seen.seen.items = λ i d j low. saw i d j (omega (arith, low, c.args.jobs.ok.0)) in
     let many : length c.in_ok-seen.seen.items ≡ length c.args.jobs.items = omega (arith, count, c.in_ok-seen.seen.ok.0, c.args.jobs.ok.0) in
     subst (λ (l : List (Vec ℕ Global)). All (λ revisions. vec_len revisions ≡ length c.args.queries.now) l) (sym c.deref.ensures.value)
     (all_many c.args.source.now.list (length c.args.queries.now) c.args.jobs.items c.in_ok-seen.seen.items c.requires.ready each many)
@@ -24,7 +25,8 @@ with_workers-requires-clause-each g c =
 pub returns : goal.returns
 returns g c =
     let count = rw c.in_ok-seen.was at c.side_by_side-seen.ensures.many in
-    let each : EachSaw c.args.jobs.items (length c.args.queries.now) c.in_ok-seen.seen.items = rw c.in_ok-seen.was at c.side_by_side-seen.ensures.each in
+    let saw = rw c.in_ok-seen.was at c.side_by_side-seen.ensures.each in
+    let each : EachSaw c.args.jobs.items (length c.args.queries.now) c.in_ok-seen.seen.items = λ i d j low. saw i d j (omega (arith, low, c.args.jobs.ok.0)) in
     let many : length c.in_ok-seen.seen.items ≡ length c.args.jobs.items = omega (arith, count, c.in_ok-seen.seen.ok.0, c.args.jobs.ok.0) in
     let list = rw c.in_ok-applied.was at c.side_by_side-seen.ensures.list in
     let replies = rw c.in_ok-applied.was at c.side_by_side-seen.ensures.replies in
