@@ -1,5 +1,5 @@
 -- How `watch` ends.
-use Rattle.std.proofs.Common.{◌≡◌, ℕ, ◌⊎◌, inl, inr, List, Some, IfSome, refl, subst}
+use Rattle.std.proofs.Common.{◌≡◌, ℕ, ◌⊎◌, inl, inr, List, IfSome, refl, subst}
 use Rattle.std.specs.declared.option.Option.{Option}
 use Rattle.identity_commands.specs.Outcome.{Calm, Streams}
 use Rattle.identity_commands.specs.declared.status.Status.{Status}

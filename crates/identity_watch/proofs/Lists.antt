@@ -4,7 +4,6 @@ use Rattle.std.proofs.lemmas.List.{append-nil}
 use Rattle.std.specs.Prelude.{OnOk, is_ok}
 use Rattle.identity_source.specs.State.{PlainState, opening}
 use Rattle.identity_source.specs.History.{Follows, IsHistory, StartsWith, EndsWith, first_revision, last_from, last_revision}
-use Rattle.identity_source.proofs.Histories.{ends_at}
 use Rattle.identity_script.specs.Request.{PlainRequest}
 use Rattle.identity_script.specs.Request.PlainRequest.{Update, Svid, Bundle}
 use Rattle.identity_script.specs.Replies.{Accepts, Refuses, AreReplies}

@@ -6,7 +6,7 @@ use Rattle.std.specs.Io.KnownBytes.{Consumes, prepend_known}
 use Rattle.identity_io.proofs.Known.{consumes_more}
 use Rattle.identity_script.specs.Request.{PlainRequest, spelled, text_size, IsRequest}
 use Rattle.identity_script.specs.Request.PlainRequest.{Update, Svid, Bundle}
-use Rattle.identity_script.specs.Script.{EndsAs, WatchScript, joint_room, text_sizes}
+use Rattle.identity_script.specs.Script.{EndsAs, WatchScript, joint_room}
 use Rattle.identity_script.specs.declared.request.Ending.{Ending}
 use Rattle.identity_script.proofs.Rooms.{all_have_room, sizes_snoc}
 use Rattle.identity_script.proofs.Sessions.{none_taken, spelled_snoc}

@@ -1,5 +1,5 @@
 -- The text that is written, put together.
-use Rattle.std.proofs.Common.{◌≡◌, ℕ, zero, suc, ◌+◌, ◌-◌, ◌<◌, ◌≤◌, min, List, length, map, take, drop, All, [], ◌∷◌, ◌++◌, get_or, None, Some, IfSome, vec_len, refl, sym, ◌∙◌, ap, subst, arith}
+use Rattle.std.proofs.Common.{◌≡◌, ℕ, zero, suc, ◌+◌, ◌<◌, ◌≤◌, min, List, length, map, take, drop, All, [], ◌∷◌, ◌++◌, get_or, None, Some, IfSome, vec_len, refl, sym, ◌∙◌, ap, subst, arith}
 use Rattle.std.specs.Prelude.{Vec}
 use Rattle.std.specs.Global.{Global}
 use Rattle.std.specs.declared.option.Option.{Option}
@@ -8,12 +8,11 @@ use Rattle.identity_io.specs.Whole.{AppendsPrefix}
 use Rattle.identity_source.specs.State.{PlainState, opening}
 use Rattle.identity_source.specs.History.{last_revision}
 use Rattle.identity_script.specs.Request.{PlainRequest}
-use Rattle.identity_script.specs.Request.PlainRequest.{Update}
 use Rattle.identity_script.specs.Replies.{AreReplies}
 use Rattle.identity_script.specs.Script.{WatchScript}
 use Rattle.identity_script.specs.declared.request.Ending.TheVariants as ending
 use Rattle.identity_watch.specs.Applied.{IsList, HaveReplies}
-use Rattle.identity_watch.specs.Asked.{IsAsked, updates_in, updates_of, queries_of}
+use Rattle.identity_watch.specs.Asked.{IsAsked, updates_in, queries_of}
 use Rattle.identity_watch.specs.Seen.{IsReady, IsSeen}
 use Rattle.identity_watch.specs.WatchText.{AreWorkers, IsWatched, WatchText, WorksOn, workers_at}
 use Rattle.identity_watch.specs.declared.asked.Query.{Query}

@@ -1,4 +1,4 @@
-use Rattle.std.proofs.Common.{◌≡◌, ◌∙◌, ◌<◌, ◌++◌, length, ap, arith}
+use Rattle.std.proofs.Common.{◌∙◌, ◌<◌, ◌++◌, length, ap, arith}
 use Rattle.identity_source.specs.State.{PlainState}
 use Rattle.identity_watch.specs.WatchText.{query_reply}
 use Rattle.identity_watch.proofs.Workers.{answers_more}

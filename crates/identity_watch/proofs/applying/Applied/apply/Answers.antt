@@ -1,4 +1,4 @@
-use Rattle.std.proofs.Common.{◌≡◌, ◌∙◌, ◌⊎◌, inl}
+use Rattle.std.proofs.Common.{◌∙◌, ◌⊎◌, inl}
 use Rattle.identity_script.specs.Replies.{Accepts, Refuses}
 use Rattle.identity_script.proofs.Attending.{accepted}
 use Rattle.identity_watch.proofs.Lists.{on_ok}
