@@ -3,7 +3,7 @@ use Rattle.std.proofs.Common.{◌≡◌, ◌∙◌, ◌<◌, ◌≤◌, ◌^◌,
 use Rattle.std.proofs.lemmas.Fmt.{decimal_injective}
 use Rattle.identity_program.specs.Words.{IsCommand, WordsAreOneCommand}
 use Rattle.identity_program.specs.declared.words.Command.{Command}
-use Rattle.identity_program.specs.declared.words.Command.TheVariants.{Show, Serve, Make}
+use Rattle.identity_program.specs.declared.words.Command.TheVariants.{Show, Serve, Watch, Make}
 
 -- a character of the first word can't be two
 other_name : (words : List (List ℕ)) (k a b : ℕ) → get_or (get_or words 0 []) k 0 ≡ a → get_or (get_or words 0 []) k 0 ≡ b → a < b → ⊥
@@ -25,3 +25,12 @@ one_command words (Show m) (Make n) p q = absurd (other_name words 0 109 115 (le
 one_command words (Make m) (Show n) p q = absurd (other_name words 0 109 115 (letter 0 words _ p.0) (letter 0 words _ q.0) (omega arith))
 one_command words (Serve m) (Make n) p q = absurd (other_name words 0 109 115 (letter 0 words _ q.0) (letter 0 words _ p.0) (omega arith))
 one_command words (Make m) (Serve n) p q = absurd (other_name words 0 109 115 (letter 0 words _ p.0) (letter 0 words _ q.0) (omega arith))
+one_command words (Watch m j) (Watch n k) p q =
+    ap (λ x. Watch x j) (decimal_injective m n p.1 q.1 (sym (at 1 words _ p.0) ∙ at 1 words _ q.0))
+    ∙ ap (λ y. Watch n y) (decimal_injective j k (omega (arith, p.3)) (omega (arith, q.3)) (sym (at 2 words _ p.0) ∙ at 2 words _ q.0))
+one_command words (Show m) (Watch n k) p q = absurd (other_name words 0 115 119 (letter 0 words _ p.0) (letter 0 words _ q.0) (omega arith))
+one_command words (Watch m j) (Show n) p q = absurd (other_name words 0 115 119 (letter 0 words _ q.0) (letter 0 words _ p.0) (omega arith))
+one_command words (Serve m) (Watch n k) p q = absurd (other_name words 0 115 119 (letter 0 words _ p.0) (letter 0 words _ q.0) (omega arith))
+one_command words (Watch m j) (Serve n) p q = absurd (other_name words 0 115 119 (letter 0 words _ q.0) (letter 0 words _ p.0) (omega arith))
+one_command words (Make m) (Watch n k) p q = absurd (other_name words 0 109 119 (letter 0 words _ p.0) (letter 0 words _ q.0) (omega arith))
+one_command words (Watch m j) (Make n) p q = absurd (other_name words 0 109 119 (letter 0 words _ q.0) (letter 0 words _ p.0) (omega arith))

@@ -9,11 +9,13 @@ use crate::words::{Command, read_words};
 use identity_commands::{Status, make, show};
 use identity_io::{LIMIT, Sink, Source};
 use identity_script::session;
+use identity_watch::{OpenGate, watch};
 use std::alloc::Global;
 use std::sync::Wait;
+use std::thread::Threads;
 
 /// Does what the words after the program's name say, and answers how it ended. A command may wait for threads of its own.
-pub fn run<R: Wait, S: Source, K: Sink>(
+pub fn run<R: Threads + Wait + Sync, S: Source, K: Sink>(
     rt: &R,
     alloc: Global,
     words: &[String],
@@ -31,6 +33,15 @@ pub fn run<R: Wait, S: Source, K: Sink>(
     match read_words(words) {
         Some(Command::Show(width)) => show(rt, alloc, width as usize, input, out),
         Some(Command::Serve(width)) => session(rt, alloc, width as usize, input, out),
+        Some(Command::Watch(width, workers)) => watch(
+            rt,
+            alloc,
+            width as usize,
+            workers as usize,
+            &OpenGate,
+            input,
+            out,
+        ),
         Some(Command::Make(n)) => make(alloc, n, out),
         None => Status::Usage,
     }

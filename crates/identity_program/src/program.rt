@@ -5,6 +5,7 @@ use identity_commands::Status;
 use identity_io::{StdSink, StdSource};
 use std::process::ExitCode;
 use std::sync::Wait;
+use std::thread::Threads;
 use std::{env, io};
 
 /// The words after the program's name. One that isn't UTF-8 is an error, which [`unread`] gives its status.
@@ -17,7 +18,7 @@ pub fn words_of(rt: &HostRuntime) -> io::Result<Vec<String>> {
 }
 
 /// Runs the words of the command line over standard input and standard output, and gives the exit status. Where it is above 1, one line on standard error says what it means; a failure there changes nothing.
-pub fn run_program<W: Wait>(rt: &HostRuntime, wait: &W) -> ExitCode {
+pub fn run_program<W: Threads + Wait + Sync>(rt: &HostRuntime, wait: &W) -> ExitCode {
     let mut input = StdSource::new(rt.reader());
     let mut out = StdSink::new(io::writer(rt));
     let status = match words_of(rt) {

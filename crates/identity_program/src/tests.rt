@@ -10,6 +10,7 @@ use std::alloc::Global;
 use std::io::ErrorKind;
 use std::process::Abort;
 use std::sync::Wait;
+use std::thread::Threads;
 
 // One identity and one bundle: the sample of the README.
 const SAMPLE: &str =
@@ -32,7 +33,7 @@ const WITHDRAWN: &str = "MCYwADAcMBoMC2V4YW1wbGUub3JnBAt7ImtleXMiOltdfYAEZ29uZQ=
 const MOVED: &str = "MBQwADAAgA5tb3ZlZDogNTAlIMO8Cg==";
 
 // The status of a run over memory in pieces, and how many bytes it wrote.
-fn run_in<R: Abort + Wait>(
+fn run_in<R: Abort + Threads + Wait + Sync>(
     rt: &R,
     alloc: Global,
     words: &[&str],
@@ -102,7 +103,7 @@ fn reports(rt: HostRuntime) {
 #[test]
 fn words(rt: HostRuntime) {
     let mut room = [0u8; 200];
-    let commands: [&[&str]; 18] = [
+    let commands: [&[&str]; 23] = [
         &[],
         &["show"],
         &["show", "064"],
@@ -120,7 +121,12 @@ fn words(rt: HostRuntime) {
         &["make", "01"],
         &["make", "10001"],
         &["make", "1", "1"],
-        &["watch", "64", "4"],
+        &["watch", "64"],
+        &["watch", "64", "9"],
+        &["watch", "64", "0"],
+        &["watch", "64", "01"],
+        &["watch", "064", "1"],
+        &["watch", "64", "1", "1"],
     ];
     for words in commands {
         let outcome = run_in(&rt, rt.alloc(), words, SAMPLE, (&[], &[]), &mut room);
@@ -193,6 +199,28 @@ fn serves(rt: HostRuntime) {
         );
         assert_eq!(rt; outcome, (status, 12));
         assert!(rt; room.starts_with(b"svid 0 none\n"));
+    }
+}
+
+// What `watch` does is tested where it stands; here, that its words call it.
+#[test]
+fn watches(rt: HostRuntime) {
+    let mut room = [0u8; 100];
+    for (workers, script, status, printed) in [
+        ("1", "svid\nend\n", Status::Done, "worker 0\nsvid 0 none\n"),
+        ("2", "end\n", Status::Done, "worker 0\nworker 1\n"),
+        ("8", "svid\nhello\n", Status::BadScript, ""),
+    ] {
+        let outcome = run_in(
+            &rt,
+            rt.alloc(),
+            &["watch", "64", workers],
+            script,
+            (&[], &[]),
+            &mut room,
+        );
+        assert_eq!(rt; outcome, (status, printed.len()));
+        assert!(rt; room.starts_with(printed.as_bytes()));
     }
 }
 

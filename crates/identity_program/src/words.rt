@@ -15,12 +15,18 @@ pub enum Command {
     /// Answer a script request by request, whose updates are in lines of so many characters.
     Serve(u64),
 
+    /// Answer a script, whose updates are in lines of so many characters, by so many workers.
+    Watch(u64, u64),
+
     /// Make an update of so many entries, and read it back.
     Make(u64),
 }
 
 /// The most entries of an update that is made.
 const MOST_ENTRIES: u64 = 10_000;
+
+/// The most workers that answer a script.
+const MOST_WORKERS: u64 = 8;
 
 // The number from 1 to `most` that the text writes.
 fn count(text: &str, most: u64) -> Option<u64>
@@ -44,6 +50,21 @@ fn two_words(name: &str, digits: &str) -> Option<Command>
     }
 }
 
+// The command that these three words write.
+fn three_words(name: &str, digits: &str, workers: &str) -> Option<Command>
+    ensures some { IfSome result (λ command. IsCommand (name.now ∷ digits.now ∷ workers.now ∷ []) command) }
+    ensures none { IfNone result (IsUsage (name.now ∷ digits.now ∷ workers.now ∷ [])) }
+{
+    match name {
+        "watch" => {
+            let width = read_number(digits)?;
+            let workers = count(workers, MOST_WORKERS)?;
+            Some(Command::Watch(width, workers))
+        }
+        _ => None,
+    }
+}
+
 /// The command that the words write, none where they are no command.
 pub fn read_words(words: &[String]) -> Option<Command>
     ensures some { IfSome result (λ command. IsCommand (texts words.now) command) }
@@ -51,6 +72,7 @@ pub fn read_words(words: &[String]) -> Option<Command>
 {
     match words {
         [name, digits] => two_words(name.as_str(), digits.as_str()),
+        [name, digits, workers] => three_words(name.as_str(), digits.as_str(), workers.as_str()),
         _ => None,
     }
 }

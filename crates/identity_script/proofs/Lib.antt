@@ -1,4 +1,5 @@
 pub mod Pending
+pub mod Rooms
 pub mod Readings
 pub mod Attending
 pub mod Sessions

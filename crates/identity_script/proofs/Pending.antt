@@ -16,20 +16,20 @@ use Rattle.identity_script.specs.declared.request.Ending.{Ending}
 use Rattle.identity_script.specs.declared.request.Ending.TheVariants.{TooLong, BadScript}
 
 -- a fact of the bytes ahead, whatever comes behind them, is one of the pending bytes
-pub known_end : (ahead : List ℕ) (left : Option (List ℕ)) (count : ℕ) (e : Ending) → ((more : List ℕ) → EndsAs count (ahead ++ more) e) → IfSome (prepend_known ahead left) (λ bytes. EndsAs count bytes e)
-known_end ahead None count e f = tt
-known_end ahead (Some xs) count e f = f xs
+pub known_end : (ahead : List ℕ) (left : Option (List ℕ)) (count most : ℕ) (e : Ending) → ((more : List ℕ) → EndsAs count most (ahead ++ more) e) → IfSome (prepend_known ahead left) (λ bytes. EndsAs count most bytes e)
+known_end ahead None count most e f = tt
+known_end ahead (Some xs) count most e f = f xs
 
 -- a fact of the bytes ahead is one of the pending bytes, where the source is at its end
-pub known_at_end : (ahead : List ℕ) (left : Option (List ℕ)) (count : ℕ) (e : Ending) → IsAtEnd left → EndsAs count (ahead ++ []) e → IfSome (prepend_known ahead left) (λ bytes. EndsAs count bytes e)
-known_at_end ahead None count e end f = tt
-known_at_end ahead (Some xs) count e end f = subst (λ (ys : List ℕ). EndsAs count (ahead ++ ys) e) (sym end) f
+pub known_at_end : (ahead : List ℕ) (left : Option (List ℕ)) (count most : ℕ) (e : Ending) → IsAtEnd left → EndsAs count most (ahead ++ []) e → IfSome (prepend_known ahead left) (λ bytes. EndsAs count most bytes e)
+known_at_end ahead None count most e end f = tt
+known_at_end ahead (Some xs) count most e end f = subst (λ (ys : List ℕ). EndsAs count most (ahead ++ ys) e) (sym end) f
 
 -- what holds of the pending bytes after a reading held before it
-pub kept_back : (old new : Option (List ℕ)) (count : ℕ) (e : Ending) → Keeps old new → IfSome new (λ bytes. EndsAs count bytes e) → IfSome old (λ bytes. EndsAs count bytes e)
-kept_back None new count e k f = tt
-kept_back (Some xs) None count e k f = absurd k
-kept_back (Some xs) (Some ys) count e k f = subst (λ (zs : List ℕ). EndsAs count zs e) k f
+pub kept_back : (old new : Option (List ℕ)) (count most : ℕ) (e : Ending) → Keeps old new → IfSome new (λ bytes. EndsAs count most bytes e) → IfSome old (λ bytes. EndsAs count most bytes e)
+kept_back None new count most e k f = tt
+kept_back (Some xs) None count most e k f = absurd k
+kept_back (Some xs) (Some ys) count most e k f = subst (λ (zs : List ℕ). EndsAs count most zs e) k f
 
 pub no_end_more : (a more : List ℕ) (n : ℕ) → n ≤ length a → NoEnd a n → NoEnd (a ++ more) n
 no_end_more a more n fits h = record { none = λ k low _ here. let inside : k < length a = omega arith in h.none k low inside (sym (get_or_append_left a more 0 k inside) ∙ here) }
@@ -50,13 +50,13 @@ pub starts_grown : (a b : List ℕ) (n : ℕ) (h : Line) → (more : List ℕ) �
 starts_grown a b n h (more, e) s = subst (λ (ys : List ℕ). Starts ys n h) (sym e) (starts_more a more n h s)
 
 -- a line's update is longer than the limit
-pub too_long : (a : List ℕ) (left : Option (List ℕ)) (n size count : ℕ) → Starts a n (says.Request (form.Update size)) → 16777216 < size → IfSome (prepend_known a left) (λ bytes. EndsAs count bytes TooLong)
-too_long a left n size count s over = known_end a left count TooLong (λ more. inr (size, (n, starts_more a more n (says.Request (form.Update size)) s), over))
+pub too_long : (a : List ℕ) (left : Option (List ℕ)) (n size count most : ℕ) → Starts a n (says.Request (form.Update size)) → most < size → IfSome (prepend_known a left) (λ bytes. EndsAs count most bytes TooLong)
+too_long a left n size count most s over = known_end a left count most TooLong (λ more. inr (size, (n, starts_more a more n (says.Request (form.Update size)) s), over))
 
 -- there are too many requests before this line's
-pub too_many : (a : List ℕ) (old left : Option (List ℕ)) (n count : ℕ) (f : Form) → Starts a n (says.Request f) → 10000 ≤ count → Keeps old (prepend_known a left) → IfSome old (λ bytes. EndsAs count bytes TooLong)
-too_many a old left n count f s many kept =
-    kept_back old (prepend_known a left) count TooLong kept (known_end a left count TooLong (λ more. inl (many, (f, (n, starts_more a more n (says.Request f) s)))))
+pub too_many : (a : List ℕ) (old left : Option (List ℕ)) (n count most : ℕ) (f : Form) → Starts a n (says.Request f) → 10000 ≤ count → Keeps old (prepend_known a left) → IfSome old (λ bytes. EndsAs count most bytes TooLong)
+too_many a old left n count most f s many kept =
+    kept_back old (prepend_known a left) count most TooLong kept (known_end a left count most TooLong (λ more. inl (many, (f, (n, starts_more a more n (says.Request f) s)))))
 
 -- fewer bytes stand ahead than the update has
 pub short_block : (a : List ℕ) (n size : ℕ) → length a < n + size + 2 → HasBlock size (drop (n + 1) a) → ⊥
@@ -70,21 +70,21 @@ wrong_block a more n size fits wrong has =
     let there : get_or (a ++ more) (n + 1 + size) 0 ≡ 10 = sym (get_or-drop (n + 1) (a ++ more) size 0) ∙ has.1 in
     wrong (ap (λ i. get_or a i 0) (sym place) ∙ sym (get_or_append_left a more 0 (n + 1 + size) low) ∙ there)
 
-pub cut_ahead : (a b : List ℕ) (n size count : ℕ) → (more : List ℕ) × (b ≡ a ++ more) → Starts a n (says.Request (form.Update size)) → count < 10000 → size ≤ 16777216 → length b < n + size + 2 → EndsAs count b BadScript
-cut_ahead a b n size count grows s free small few =
+pub cut_ahead : (a b : List ℕ) (n size count most : ℕ) → (more : List ℕ) × (b ≡ a ++ more) → Starts a n (says.Request (form.Update size)) → count < 10000 → size ≤ most → length b < n + size + 2 → EndsAs count most b BadScript
+cut_ahead a b n size count most grows s free small few =
     inr (inr (record { few = free; n = n; size = size; small = small; starts = starts_grown a b n (says.Request (form.Update size)) grows s; missing = short_block b n size few }))
 
-pub cut_at_end : (a b : List ℕ) (old left : Option (List ℕ)) (n size count : ℕ) → (more : List ℕ) × (b ≡ a ++ more) → Starts a n (says.Request (form.Update size)) → count < 10000 → size ≤ 16777216 → length b < n + size + 2 → IsAtEnd left
-    → Keeps old (prepend_known b left) → IfSome old (λ bytes. EndsAs count bytes BadScript)
-cut_at_end a b old left n size count (more, e) s free small few end kept =
-    kept_back old (prepend_known b left) count BadScript kept (known_at_end b left count BadScript end
-    (cut_ahead a (b ++ []) n size count (more, rw (append-nil b) e) s free small (omega (arith, ap length (append-nil b)))))
+pub cut_at_end : (a b : List ℕ) (old left : Option (List ℕ)) (n size count most : ℕ) → (more : List ℕ) × (b ≡ a ++ more) → Starts a n (says.Request (form.Update size)) → count < 10000 → size ≤ most → length b < n + size + 2 → IsAtEnd left
+    → Keeps old (prepend_known b left) → IfSome old (λ bytes. EndsAs count most bytes BadScript)
+cut_at_end a b old left n size count most (more, e) s free small few end kept =
+    kept_back old (prepend_known b left) count most BadScript kept (known_at_end b left count most BadScript end
+    (cut_ahead a (b ++ []) n size count most (more, rw (append-nil b) e) s free small (omega (arith, ap length (append-nil b)))))
 
-pub cut_wrong : (a b : List ℕ) (old left : Option (List ℕ)) (n size count : ℕ) → (more : List ℕ) × (b ≡ a ++ more) → Starts a n (says.Request (form.Update size)) → count < 10000 → size ≤ 16777216 → n + size + 2 ≤ length b
-    → (get_or b (n + size + 2 - 1) 0 ≡ 10 → ⊥) → Keeps old (prepend_known b left) → IfSome old (λ bytes. EndsAs count bytes BadScript)
-cut_wrong a b old left n size count grows s free small fits wrong kept =
+pub cut_wrong : (a b : List ℕ) (old left : Option (List ℕ)) (n size count most : ℕ) → (more : List ℕ) × (b ≡ a ++ more) → Starts a n (says.Request (form.Update size)) → count < 10000 → size ≤ most → n + size + 2 ≤ length b
+    → (get_or b (n + size + 2 - 1) 0 ≡ 10 → ⊥) → Keeps old (prepend_known b left) → IfSome old (λ bytes. EndsAs count most bytes BadScript)
+cut_wrong a b old left n size count most grows s free small fits wrong kept =
     let t : Starts b n (says.Request (form.Update size)) = starts_grown a b n (says.Request (form.Update size)) grows s in
-    kept_back old (prepend_known b left) count BadScript kept (known_end b left count BadScript
+    kept_back old (prepend_known b left) count most BadScript kept (known_end b left count most BadScript
     (λ rest. inr (inr (record { few = free; n = n; size = size; small = small; starts = starts_more b rest n (says.Request (form.Update size)) t; missing = wrong_block b rest n size fits wrong }))))
 
 -- a list around one place
@@ -142,9 +142,9 @@ taken_off b pre rest (Some xs) None k e = absurd k
 taken_off b pre rest (Some xs) (Some ys) k e = grind (arith, common_steps, k, e)
 
 -- a line that is no request stands ahead
-pub no_request : (a : List ℕ) (old left : Option (List ℕ)) (n count : ℕ) → Starts a n says.Other → Keeps old (prepend_known a left) → IfSome old (λ bytes. EndsAs count bytes BadScript)
-no_request a old left n count s kept =
-    kept_back old (prepend_known a left) count BadScript kept (known_end a left count BadScript (λ more. inr (inl (n, starts_more a more n says.Other s))))
+pub no_request : (a : List ℕ) (old left : Option (List ℕ)) (n count most : ℕ) → Starts a n says.Other → Keeps old (prepend_known a left) → IfSome old (λ bytes. EndsAs count most bytes BadScript)
+no_request a old left n count most s kept =
+    kept_back old (prepend_known a left) count most BadScript kept (known_end a left count most BadScript (λ more. inr (inl (n, starts_more a more n says.Other s))))
 
 taken_here : (b pre rest : List ℕ) (left : Option (List ℕ)) → b ≡ pre ++ rest → Consumes (prepend_known b left) (prepend_known rest left) pre
 taken_here b pre rest None e = tt

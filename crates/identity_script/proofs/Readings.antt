@@ -1,14 +1,14 @@
 -- A script has one reading.
-use Rattle.std.proofs.Common.{◌≡◌, ℕ, ◌+◌, ◌%◌, ◌<◌, ◌≤◌, ◌^◌, suc, List, [], ◌∷◌, ◌++◌, length, take, drop, get_or, codes, decimal, flat_map, All, refl, sym, ◌∙◌, ap, subst, inl, inr, arith, append_assoc, length-append, zero-add, Result, Ok, Err}
+use Rattle.std.proofs.Common.{◌≡◌, ℕ, ◌+◌, ◌%◌, ◌<◌, ◌≤◌, ◌^◌, suc, List, [], ◌∷◌, ◌++◌, length, take, drop, get_or, codes, decimal, flat_map, All, refl, sym, ◌∙◌, ap, subst, inl, inr, arith, append_assoc, length-append, Result, Ok, Err}
 use Rattle.std.proofs.lemmas.List.{get_or-take, length-take, append-nil}
 use Rattle.std.proofs.lemmas.List.Elements.{All-head, All-tail}
 use Rattle.std.proofs.lemmas.Fmt.{decimal_by_steps, decimal_injective, length-decimal-le}
 use Rattle.std.proofs.Math.Seq.{get_or-append_seam}
 use Rattle.spiffe_id.specs.declared.error.SpiffeIdError.{SpiffeIdError}
-use Rattle.identity_script.specs.Request.{PlainRequest, first_line, behind_line, spelled, IsRequest, Names, NoEnd}
+use Rattle.identity_script.specs.Request.{PlainRequest, first_line, behind_line, spelled, text_size, IsRequest, Names, NoEnd}
 use Rattle.identity_script.specs.Request.PlainRequest.{Update, Svid, Bundle}
 use Rattle.identity_script.specs.Line.{Says, Tells}
-use Rattle.identity_script.specs.Script.{EndsAs, Starts, HasBlock, HaveOneReading, LeadTheRequests}
+use Rattle.identity_script.specs.Script.{EndsAs, Starts, HasBlock, HaveRoom, HaveOneReading, LeadTheRequests}
 use Rattle.identity_script.specs.declared.line.Form.{Form}
 use Rattle.identity_script.specs.declared.line.Form.TheVariants as form
 use Rattle.identity_script.specs.declared.line.Line.{Line}
@@ -137,10 +137,10 @@ not_end (Update text) e = let f : 101 ≡ 117 = ap (λ x. get_or x 0 0) e in ome
 not_end Svid e = let f : 101 ≡ 115 = ap (λ x. get_or x 0 0) e in omega (arith, f)
 not_end (Bundle name domain) e = let f : 101 ≡ 98 = ap (λ x. get_or x 0 0) e in omega (arith, f)
 
-not_over : (q : PlainRequest) (size : ℕ) → IsRequest q → size < 2 ^ 64 → codes "update " ++ decimal size ≡ first_line q → 16777216 < size → ⊥
-not_over (Update text) size p small e over = let same : size ≡ length text = one_size size (length text) small (omega arith) e in omega arith
-not_over Svid size p small e over = update_svid (decimal size) e
-not_over (Bundle name domain) size p small e over = update_bundle (decimal size) name e
+not_over : (q : PlainRequest) (size most : ℕ) → IsRequest q → text_size q ≤ most → size < 2 ^ 64 → codes "update " ++ decimal size ≡ first_line q → most < size → ⊥
+not_over (Update text) size most p fits small e over = let same : size ≡ length text = one_size size (length text) small (omega arith) e in omega arith
+not_over Svid size most p fits small e over = update_svid (decimal size) e
+not_over (Bundle name domain) size most p fits small e over = update_bundle (decimal size) name e
 
 not_other : (q : PlainRequest) (line : List ℕ) → IsRequest q → line ≡ first_line q → Says line says.Other → ⊥
 not_other (Update text) line p e other = other.1 (form.Update (length text)) (e, omega arith)
@@ -160,36 +160,39 @@ short_line Svid p = omega arith
 short_line (Bundle name domain) p = omega (arith, p.2, length-append (codes "bundle ") name)
 
 -- no script ends where a whole request stands
-goes_on : (count : ℕ) (bytes : List ℕ) (e : Ending) (q : PlainRequest) (more : List ℕ) → IsRequest q → count < 10000 → bytes ≡ spelled q ++ more → EndsAs count bytes e → ⊥
-goes_on count bytes Done q more p few is (n, s) = not_end q (sym s.is ∙ (line_first bytes n says.End q more p is s).0)
-goes_on count bytes TooLong q more p few is (inl (many, other)) = omega arith
-goes_on count bytes TooLong q more p few is (inr (size, (n, s), over)) =
-    not_over q size p s.is.1 (sym s.is.0 ∙ (line_first bytes n (says.Request (form.Update size)) q more p is s).0) over
-goes_on count bytes BadScript q more p few is (inl none) =
+goes_on : (count most : ℕ) (bytes : List ℕ) (e : Ending) (q : PlainRequest) (more : List ℕ) → IsRequest q → count < 10000 → text_size q ≤ most → bytes ≡ spelled q ++ more → EndsAs count most bytes e → ⊥
+goes_on count most bytes Done q more p few fits is (n, s) = not_end q (sym s.is ∙ (line_first bytes n says.End q more p is s).0)
+goes_on count most bytes TooLong q more p few fits is (inl (many, other)) = omega arith
+goes_on count most bytes TooLong q more p few fits is (inr (size, (n, s), over)) =
+    not_over q size most p fits s.is.1 (sym s.is.0 ∙ (line_first bytes n (says.Request (form.Update size)) q more p is s).0) over
+goes_on count most bytes BadScript q more p few fits is (inl none) =
     let line : bytes ≡ first_line q ++ 10 ∷ behind q more = is ∙ spelled_behind q more in
     none.none (length (first_line q)) (short_line q p) (omega (arith, ap length line, length-append (first_line q) (10 ∷ behind q more)))
     (ap (λ x. get_or x (length (first_line q)) 0) line ∙ get_or-append_seam (first_line q) 10 (behind q more) 0)
-goes_on count bytes BadScript q more p few is (inr (inl (n, s))) = not_other q (take n bytes) p (line_first bytes n says.Other q more p is s).0 s.is
-goes_on count bytes BadScript q more p few is (inr (inr cut)) =
+goes_on count most bytes BadScript q more p few fits is (inr (inl (n, s))) = not_other q (take n bytes) p (line_first bytes n says.Other q more p is s).0 s.is
+goes_on count most bytes BadScript q more p few fits is (inr (inr cut)) =
     let h = line_first bytes cut.n (says.Request (form.Update cut.size)) q more p is cut.starts in
     cut.missing (not_cut q cut.size (drop (cut.n + 1) bytes) more p cut.starts.is.1 (sym cut.starts.is.0 ∙ h.0) h.1)
 
--- whole requests at the front of a script are its first ones
-front_first : (count : ℕ) (ps rs : List PlainRequest) (us rest : List ℕ) (e : Ending) → flat_map spelled ps ++ us ≡ flat_map spelled rs ++ rest
-    → All IsRequest ps → All IsRequest rs → count + length ps ≤ 10000 → EndsAs (count + length rs) rest e → (more : List PlainRequest) × (rs ≡ ps ++ more)
-front_first count [] rs us rest e is lawful law few ends = (rs, refl)
-front_first count (p ∷ ps) [] us rest e is lawful law few ends =
-    absurd (goes_on (count + 0) rest e p (flat_map spelled ps ++ us) (All-head IsRequest p ps lawful) (omega arith) (sym is ∙ append_assoc (spelled p) (flat_map spelled ps) us) ends)
-front_first count (p ∷ ps) (r ∷ rs) us rest e is lawful law few ends =
+-- whole requests ps at the front of a script are the first ones of its requests rs, where both stand behind the same requests
+front_first : (room : List PlainRequest → ℕ) (all before ps rs : List PlainRequest) (us rest : List ℕ) (e : Ending) → all ≡ before ++ rs → flat_map spelled ps ++ us ≡ flat_map spelled rs ++ rest
+    → All IsRequest ps → All IsRequest rs → length before + length ps ≤ 10000 → HaveRoom room before ps → EndsAs (length all) (room all) rest e → (more : List PlainRequest) × (rs ≡ ps ++ more)
+front_first room all before [] rs us rest e whole is lawful law few fit ends = (rs, refl)
+front_first room all before (p ∷ ps) [] us rest e whole is lawful law few fit ends =
+    let same : all ≡ before = whole ∙ append-nil before in
+    absurd (goes_on (length all) (room all) rest e p (flat_map spelled ps ++ us) (All-head IsRequest p ps lawful) (omega (arith, ap length same))
+    (omega (arith, ap room same, fit.0)) (sym is ∙ append_assoc (spelled p) (flat_map spelled ps) us) ends)
+front_first room all before (p ∷ ps) (r ∷ rs) us rest e whole is lawful law few fit ends =
     let h = spelled_once p r (flat_map spelled ps ++ us) (flat_map spelled rs ++ rest) (All-head IsRequest p ps lawful) (All-head IsRequest r rs law)
     (sym (append_assoc (spelled p) (flat_map spelled ps) us) ∙ is ∙ append_assoc (spelled r) (flat_map spelled rs) rest) in
-    let next = front_first (count + 1) ps rs us rest e h.1 (All-tail IsRequest p ps lawful) (All-tail IsRequest r rs law) (omega arith) (subst (λ (k : ℕ). EndsAs k rest e) (omega arith) ends) in
+    let behind_both : all ≡ (before ++ p ∷ []) ++ rs = whole ∙ ap (λ q. before ++ q ∷ rs) (sym h.0) ∙ sym (append_assoc before (p ∷ []) rs) in
+    let next = front_first room all (before ++ p ∷ []) ps rs us rest e behind_both h.1 (All-tail IsRequest p ps lawful) (All-tail IsRequest r rs law)
+    (omega (arith, length-append before (p ∷ []))) fit.1 ends in
     (next.0, ap (λ x. r ∷ x) next.1 ∙ ap (λ q. q ∷ (ps ++ next.0)) (sym h.0))
 
 pub lead_the_requests : LeadTheRequests
-lead_the_requests bytes first requests e p s =
-    front_first 0 first requests p.rest s.front.rest e (sym p.whole ∙ s.front.whole) p.lawful s.front.lawful (omega (arith, p.few))
-    (subst (λ (k : ℕ). EndsAs k s.front.rest e) (sym (zero-add (length requests))) s.ends)
+lead_the_requests room bytes first requests e p s =
+    front_first room requests [] first requests p.rest s.front.rest e refl (sym p.whole ∙ s.front.whole) p.lawful s.front.lawful (omega (arith, p.few)) p.fit s.ends
 
 -- one line says one thing
 forms_once : (line : List ℕ) (f g : Form) → Tells line f → Tells line g → f ≡ g
@@ -237,44 +240,44 @@ update_size (says.Request (form.Bundle d)) = 0
 update_size says.End = 0
 update_size says.Other = 0
 
-done_alone : (count : ℕ) (bytes : List ℕ) (f : Ending) → EndsAs count bytes Done → EndsAs count bytes f → Done ≡ f
-done_alone count bytes Done p q = refl
-done_alone count bytes TooLong (m, p) (inl (many, (f, (n, q)))) = absurd (cc (starts_once bytes m n says.End (says.Request f) p q))
-done_alone count bytes TooLong (m, p) (inr (size, (n, q), over)) = absurd (cc (starts_once bytes m n says.End (says.Request (form.Update size)) p q))
-done_alone count bytes BadScript (m, p) (inl none) = absurd (no_line bytes m says.End none p)
-done_alone count bytes BadScript (m, p) (inr (inl (n, q))) = absurd (cc (starts_once bytes m n says.End says.Other p q))
-done_alone count bytes BadScript (m, p) (inr (inr cut)) = absurd (cc (starts_once bytes m cut.n says.End (says.Request (form.Update cut.size)) p cut.starts))
+done_alone : (count most : ℕ) (bytes : List ℕ) (f : Ending) → EndsAs count most bytes Done → EndsAs count most bytes f → Done ≡ f
+done_alone count most bytes Done p q = refl
+done_alone count most bytes TooLong (m, p) (inl (many, (f, (n, q)))) = absurd (cc (starts_once bytes m n says.End (says.Request f) p q))
+done_alone count most bytes TooLong (m, p) (inr (size, (n, q), over)) = absurd (cc (starts_once bytes m n says.End (says.Request (form.Update size)) p q))
+done_alone count most bytes BadScript (m, p) (inl none) = absurd (no_line bytes m says.End none p)
+done_alone count most bytes BadScript (m, p) (inr (inl (n, q))) = absurd (cc (starts_once bytes m n says.End says.Other p q))
+done_alone count most bytes BadScript (m, p) (inr (inr cut)) = absurd (cc (starts_once bytes m cut.n says.End (says.Request (form.Update cut.size)) p cut.starts))
 
-long_alone : (count : ℕ) (bytes : List ℕ) → EndsAs count bytes TooLong → EndsAs count bytes BadScript → TooLong ≡ BadScript
-long_alone count bytes (inl (many, (f, (m, p)))) (inl none) = absurd (no_line bytes m (says.Request f) none p)
-long_alone count bytes (inl (many, (f, (m, p)))) (inr (inl (n, q))) = absurd (cc (starts_once bytes m n (says.Request f) says.Other p q))
-long_alone count bytes (inl (many, (f, (m, p)))) (inr (inr cut)) = absurd (omega (arith, cut.few))
-long_alone count bytes (inr (size, (m, p), over)) (inl none) = absurd (no_line bytes m (says.Request (form.Update size)) none p)
-long_alone count bytes (inr (size, (m, p), over)) (inr (inl (n, q))) = absurd (cc (starts_once bytes m n (says.Request (form.Update size)) says.Other p q))
-long_alone count bytes (inr (size, (m, p), over)) (inr (inr cut)) =
+long_alone : (count most : ℕ) (bytes : List ℕ) → EndsAs count most bytes TooLong → EndsAs count most bytes BadScript → TooLong ≡ BadScript
+long_alone count most bytes (inl (many, (f, (m, p)))) (inl none) = absurd (no_line bytes m (says.Request f) none p)
+long_alone count most bytes (inl (many, (f, (m, p)))) (inr (inl (n, q))) = absurd (cc (starts_once bytes m n (says.Request f) says.Other p q))
+long_alone count most bytes (inl (many, (f, (m, p)))) (inr (inr cut)) = absurd (omega (arith, cut.few))
+long_alone count most bytes (inr (size, (m, p), over)) (inl none) = absurd (no_line bytes m (says.Request (form.Update size)) none p)
+long_alone count most bytes (inr (size, (m, p), over)) (inr (inl (n, q))) = absurd (cc (starts_once bytes m n (says.Request (form.Update size)) says.Other p q))
+long_alone count most bytes (inr (size, (m, p), over)) (inr (inr cut)) =
     let sizes : size ≡ cut.size = ap update_size (starts_once bytes m cut.n (says.Request (form.Update size)) (says.Request (form.Update cut.size)) p cut.starts) in
     absurd (omega (arith, cut.small))
 
 -- the rest of a script has one ending
-ends_once : (count : ℕ) (bytes : List ℕ) (e f : Ending) → EndsAs count bytes e → EndsAs count bytes f → e ≡ f
-ends_once count bytes Done f p q = done_alone count bytes f p q
-ends_once count bytes TooLong Done p q = sym (done_alone count bytes TooLong q p)
-ends_once count bytes TooLong TooLong p q = refl
-ends_once count bytes TooLong BadScript p q = long_alone count bytes p q
-ends_once count bytes BadScript Done p q = sym (done_alone count bytes BadScript q p)
-ends_once count bytes BadScript TooLong p q = sym (long_alone count bytes q p)
-ends_once count bytes BadScript BadScript p q = refl
+ends_once : (count most : ℕ) (bytes : List ℕ) (e f : Ending) → EndsAs count most bytes e → EndsAs count most bytes f → e ≡ f
+ends_once count most bytes Done f p q = done_alone count most bytes f p q
+ends_once count most bytes TooLong Done p q = sym (done_alone count most bytes TooLong q p)
+ends_once count most bytes TooLong TooLong p q = refl
+ends_once count most bytes TooLong BadScript p q = long_alone count most bytes p q
+ends_once count most bytes BadScript Done p q = sym (done_alone count most bytes BadScript q p)
+ends_once count most bytes BadScript TooLong p q = sym (long_alone count most bytes q p)
+ends_once count most bytes BadScript BadScript p q = refl
 
 nothing_more : (xs ys us : List PlainRequest) → ys ≡ xs ++ us → length ys ≤ length xs → xs ≡ ys
 nothing_more xs ys [] p l = sym (p ∙ append-nil xs)
 nothing_more xs ys (u ∷ us) p l = absurd (omega (arith, ap length p, length-append xs (u ∷ us)))
 
 pub have_one_reading : HaveOneReading
-have_one_reading bytes rs others e f p q =
-    let there = lead_the_requests bytes rs others f p.front q in
-    let back = lead_the_requests bytes others rs e q.front p in
+have_one_reading room bytes rs others e f p q =
+    let there = lead_the_requests room bytes rs others f p.front q in
+    let back = lead_the_requests room bytes others rs e q.front p in
     let same : rs ≡ others = nothing_more rs others there.0 there.1 (omega (arith, ap length back.1, length-append others back.0)) in
     let rests : flat_map spelled rs ++ q.front.rest ≡ flat_map spelled rs ++ p.front.rest = ap (λ l. flat_map spelled l ++ q.front.rest) same ∙ sym q.front.whole ∙ p.front.whole in
     let rest : q.front.rest ≡ p.front.rest = (pieces_once (flat_map spelled rs) (flat_map spelled rs) q.front.rest p.front.rest refl rests).1 in
-    let ends : EndsAs (length others) p.front.rest f = subst (λ (l : List ℕ). EndsAs (length others) l f) rest q.ends in
-    (same, ends_once (length rs) p.front.rest e f p.ends (subst (λ (k : ℕ). EndsAs k p.front.rest f) (sym (ap length same)) ends))
+    let ends : EndsAs (length others) (room others) p.front.rest f = subst (λ (l : List ℕ). EndsAs (length others) (room others) l f) rest q.ends in
+    (same, ends_once (length rs) (room rs) p.front.rest e f p.ends (subst (λ (l : List PlainRequest). EndsAs (length l) (room l) p.front.rest f) (sym same) ends))

@@ -13,13 +13,15 @@ use Rattle.identity_commands.specs.Outcome.{Calm, Streams}
 use Rattle.identity_commands.specs.declared.status.Status.{Status}
 use Rattle.identity_commands.specs.declared.status.Status.TheVariants as status
 use Rattle.identity_script.specs.Request.{PlainRequest, spelled, IsRequest}
-use Rattle.identity_script.specs.Script.{EndsAs, Front, Script, HaveOneReading}
+use Rattle.identity_script.specs.Script.{EndsAs, Front, Script, each_room, HaveOneReading}
+use Rattle.identity_script.proofs.Rooms.{each_has_room}
 use Rattle.identity_script.specs.Replies.{IsReply, AreReplies}
 use Rattle.identity_script.specs.Session.{Progress, WroteReplies, WroteFirst, Served, Serves, EndsWell}
 use Rattle.identity_script.specs.declared.request.Ending.{Ending}
 use Rattle.identity_script.specs.declared.request.Ending.TheVariants.{Done, TooLong, BadScript}
 
-spelled_snoc : (rs : List PlainRequest) (q : PlainRequest) → flat_map spelled (rs ++ q ∷ []) ≡ flat_map spelled rs ++ spelled q
+-- the bytes with one more request
+pub spelled_snoc : (rs : List PlainRequest) (q : PlainRequest) → flat_map spelled (rs ++ q ∷ []) ≡ flat_map spelled rs ++ spelled q
 spelled_snoc [] q = append-nil (spelled q)
 spelled_snoc (r ∷ rs) q = ap (λ l. spelled r ++ l) (spelled_snoc rs q) ∙ sym (append_assoc (spelled r) (flat_map spelled rs) (spelled q))
 
@@ -28,7 +30,7 @@ pub rose_from : (a b c : ℕ) → a ≤ b → Rose b c → Rose a c
 rose_from a b c low rose = omega (arith, low, rose)
 
 -- one more request is answered
-replies_snoc : (width : ℕ) (list : List PlainState) (qs : List PlainRequest) (mid list' : List PlainState) (text reply : List ℕ) (q : PlainRequest)
+pub replies_snoc : (width : ℕ) (list : List PlainState) (qs : List PlainRequest) (mid list' : List PlainState) (text reply : List ℕ) (q : PlainRequest)
     → AreReplies width list qs mid text → IsReply width mid q list' reply → AreReplies width list (qs ++ q ∷ []) list' (text ++ reply)
 replies_snoc width list [] mid list' text reply q (same, none) r =
     (list', (reply, ([], (subst (λ (l : List PlainState). IsReply width l q list' reply) same r, (refl, refl), ap (λ l. l ++ reply) none ∙ sym (append-nil reply)))))
@@ -53,16 +55,17 @@ nothing_written : (a : Option (List ℕ)) → Appends a a []
 nothing_written None = tt
 nothing_written (Some xs) = sym (append-nil xs)
 
-kept : (left : Option (List ℕ)) → Consumes left (prepend_known [] left) []
-kept None = tt
-kept (Some xs) = refl
+-- nothing was taken yet
+pub none_taken : (left : Option (List ℕ)) → Consumes left (prepend_known [] left) []
+none_taken None = tt
+none_taken (Some xs) = refl
 
 -- nothing was taken yet
 pub begun : (width : ℕ) (left w : Option (List ℕ)) (ahead : List ℕ) (list : List PlainState) → ahead ≡ [] → list ≡ opening 0 ∷ [] → Progress width left (prepend_known ahead left) w w 0 list
 begun width left w ahead list empty opened =
     record {
       requests = [];
-      taken = subst (λ (a : List ℕ). Consumes left (prepend_known a left) []) (sym empty) (kept left);
+      taken = subst (λ (a : List ℕ). Consumes left (prepend_known a left) []) (sym empty) (none_taken left);
       lawful = λ k d low. absurd (omega (arith, low));
       counted = refl;
       text = [];
@@ -86,13 +89,13 @@ one_more width left now now' w w1 w2 count list list' reply q p taken lawful ans
 
 -- the script ends
 pub ended : (width : ℕ) (left now w w' : Option (List ℕ)) (count : ℕ) (list : List PlainState) (e : Ending) → Progress width left now w w' count list → count ≤ 10000
-    → IfSome now (λ bytes. EndsAs count bytes e) → IfSome left (λ bytes. (requests : List PlainRequest) × (Script bytes requests e × WroteReplies width requests w w'))
+    → IfSome now (λ bytes. EndsAs count 16777216 bytes e) → IfSome left (λ bytes. (requests : List PlainRequest) × (Script bytes requests e × WroteReplies width requests w w'))
 ended width None now w w' count list e p few f = tt
 ended width (Some xs) None w w' count list e p few f = absurd p.taken
 ended width (Some xs) (Some ys) w w' count list e p few f = (
   p.requests,
   (
-    record { front = record { rest = ys; whole = p.taken; lawful = p.lawful; few = omega (arith, p.counted) }; ends = subst (λ (n : ℕ). EndsAs n ys e) (sym p.counted) f },
+    record { front = record { rest = ys; whole = p.taken; lawful = p.lawful; few = omega (arith, p.counted); fit = each_has_room [] p.requests p.lawful }; ends = subst (λ (n : ℕ). EndsAs n 16777216 ys e) (sym p.counted) f },
     (list, (p.text, (p.replies, p.wrote))),
   ),
 )
@@ -105,7 +108,7 @@ taken_more (Some xs) (Some a) (Some b) ahead ahead' front p k = p ∙ ap (λ l. 
 
 -- a read fails
 pub stopped : (width : ℕ) (left l l' w w' : Option (List ℕ)) (ahead ahead' : List ℕ) (count : ℕ) (list : List PlainState) → Progress width left (prepend_known ahead l) w w' count list → count ≤ 10000
-    → Keeps (prepend_known ahead l) (prepend_known ahead' l') → EndsAs count ahead' BadScript
+    → Keeps (prepend_known ahead l) (prepend_known ahead' l') → EndsAs count 16777216 ahead' BadScript
     → (taken : List ℕ) × (Consumes left l' taken × ((requests : List PlainRequest) × (Script taken requests BadScript × WroteReplies width requests w w')))
 stopped width left l l' w w' ahead ahead' count list p few k f = (
   flat_map spelled p.requests ++ ahead',
@@ -115,8 +118,8 @@ stopped width left l l' w w' ahead ahead' count list p few k f = (
       p.requests,
       (
         record {
-          front = record { rest = ahead'; whole = refl; lawful = p.lawful; few = omega (arith, p.counted) };
-          ends = subst (λ (n : ℕ). EndsAs n ahead' BadScript) (sym p.counted) f;
+          front = record { rest = ahead'; whole = refl; lawful = p.lawful; few = omega (arith, p.counted); fit = each_has_room [] p.requests p.lawful };
+          ends = subst (λ (n : ℕ). EndsAs n 16777216 ahead' BadScript) (sym p.counted) f;
         },
         (list, (p.text, (p.replies, p.wrote))),
       ),
@@ -132,7 +135,7 @@ in_part width (Some xs) None w w' count list p few = absurd p.taken
 in_part width (Some xs) (Some ys) w w' count list p few = (
   p.requests,
   (
-    record { rest = ys; whole = p.taken; lawful = p.lawful; few = omega (arith, p.counted) },
+    record { rest = ys; whole = p.taken; lawful = p.lawful; few = omega (arith, p.counted); fit = each_has_room [] p.requests p.lawful },
     (list, (p.text, (p.replies, appends_whole w w' p.text p.wrote))),
   ),
 )
@@ -153,6 +156,7 @@ in_reply width (Some xs) now (Some zs) w w1 w2 count list list' reply q p taken 
           (consumes_more (Some xs) now (Some zs) (flat_map spelled p.requests) (spelled q) p.taken taken);
       lawful = All-push IsRequest p.requests q p.lawful lawful;
       few = omega (arith, p.counted, length-append p.requests (q ∷ []));
+      fit = each_has_room [] (p.requests ++ q ∷ []) (All-push IsRequest p.requests q p.lawful lawful);
     },
     (list', (p.text ++ reply, (replies_snoc width (opening 0 ∷ []) p.requests list list' p.text reply q p.replies answer, part_more w w1 w2 p.text reply p.wrote wrote))),
   ),
@@ -166,7 +170,7 @@ other_ending : HaveOneReading → (width : ℕ) (before now : Streams) (e : Endi
 other_ending law width before now e served (bytes, (is, (requests, script))) =
     let found : (others : List PlainRequest) × (Script bytes others e × WroteReplies width others before.written now.written) =
     subst (λ (left : Option (List ℕ)). IfSome left (λ bytes. (others : List PlainRequest) × (Script bytes others e × WroteReplies width others before.written now.written))) is served in
-    (law bytes found.0 requests e Done found.1.0 script).1
+    (law each_room bytes found.0 requests e Done found.1.0 script).1
 
 -- a session over a script that ends well, in which no fault came
 pub ends_well : HaveOneReading → (width : ℕ) (before now : Streams) (s : Status) → Serves width before now s → Calm before.read_faults now.read_faults → Calm before.write_faults now.write_faults → EndsWell before.left

@@ -1,8 +1,8 @@
 -- What comes next in a script.
-use Rattle.std.specs.Prelude.{ℕ, ◌<◌, List, IfSome}
+use Rattle.std.specs.Prelude.{ℕ, ◌<◌, ◌≤◌, List, IfSome}
 use Rattle.std.specs.declared.option.Option.{Option}
 use Rattle.std.specs.Io.KnownBytes.{Consumes}
-use Rattle.identity_script.specs.Request.{PlainRequest, spelled, IsRequest}
+use Rattle.identity_script.specs.Request.{PlainRequest, spelled, text_size, IsRequest}
 use Rattle.identity_script.specs.Request.PlainRequest.{Update, Svid, Bundle}
 use Rattle.identity_script.specs.Script.{EndsAs}
 use Rattle.identity_script.specs.declared.request.Request.{Request}
@@ -16,7 +16,8 @@ meaning name (code.Update text) = Update text.items
 meaning name code.Svid = Svid
 meaning name (code.Bundle domain) = Bundle name domain
 
--- a request was taken, or the script ends so
-abbrev pub IsNext : ℕ → Option (List ℕ) → Option (List ℕ) → Next → Type 0
-IsNext count old new (next.Request request) = (name : List ℕ) × Consumes old new (spelled (meaning name request)) × IsRequest (meaning name request) × (count < 10000)
-IsNext count old new (next.End ending) = IfSome old (λ bytes. EndsAs count bytes ending)
+-- behind so many requests, and where the next update may have so many bytes, a request was taken, or the script ends so
+abbrev pub IsNext : ℕ → ℕ → Option (List ℕ) → Option (List ℕ) → Next → Type 0
+IsNext count most old new (next.Request request) = (name : List ℕ) × Consumes old new (spelled (meaning name request)) × IsRequest (meaning name request) × (count < 10000)
+    × (text_size (meaning name request) ≤ most)
+IsNext count most old new (next.End ending) = IfSome old (λ bytes. EndsAs count most bytes ending)

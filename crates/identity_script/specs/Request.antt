@@ -21,6 +21,12 @@ behind_line (Update text) = text ++ 10 ∷ []
 behind_line Svid = []
 behind_line (Bundle name domain) = []
 
+-- how many bytes the text of an update has
+abbrev pub text_size : PlainRequest → ℕ
+text_size (Update text) = length text
+text_size Svid = 0
+text_size (Bundle name domain) = 0
+
 -- its bytes in a script
 abbrev pub spelled : PlainRequest → List ℕ
 spelled request = first_line request ++ 10 ∷ behind_line request

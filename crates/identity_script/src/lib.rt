@@ -15,6 +15,7 @@ pub use ahead::{Ahead, Stop};
 pub use line::{Form, Line, MOST_LINE, read_line};
 pub use number::read_number;
 pub use reading::{MOST_REQUESTS, next_request};
+pub use reply::{accepted_text, bundle_text, svid_text};
 pub use request::{Ending, Next, Request};
 pub use serving::session;
 

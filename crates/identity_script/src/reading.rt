@@ -84,18 +84,20 @@ fn take_update<S: Source>(
     ahead: &mut Ahead,
     source: &mut S,
     count: u64,
+    most: u64,
     n: usize,
     size: u64,
 ) -> Result<Next, Stop>
     requires begun { Starts ahead.old n (line.Request (form.Update size)) }
     requires few { count < 10000 }
-    ensures next { IfOk result (λ next. IsNext count (prepend_known ahead.old (S.left source.old)) (prepend_known ahead.new (S.left source.new)) next) }
-    ensures stopped { result ≡ Err Stop.Failed → EndsAs count ahead.new BadScript }
+    requires room { most ≤ LIMIT }
+    ensures next { IfOk result (λ next. IsNext count most (prepend_known ahead.old (S.left source.old)) (prepend_known ahead.new (S.left source.new)) next) }
+    ensures stopped { result ≡ Err Stop.Failed → EndsAs count most ahead.new BadScript }
     ensures pending_err { result ≡ Err Stop.Failed → Keeps (prepend_known ahead.old (S.left source.old)) (prepend_known ahead.new (S.left source.new)) }
     ensures failed { result ≡ Err Stop.Failed → Rose (S.faults source.old) (S.faults source.new) }
     ensures later { S.faults source.old ≤ S.faults source.new }
 {
-    if size > LIMIT as u64 {
+    if size > most {
         return Ok(Next::End(Ending::TooLong));
     }
     let size = size as usize;
@@ -120,13 +122,15 @@ fn take_request<S: Source>(
     ahead: &mut Ahead,
     source: &mut S,
     count: u64,
+    most: u64,
     n: usize,
     form: Form,
 ) -> Result<Next, Stop>
     requires begun { Starts ahead.old n (line.Request form) }
     requires few { count < 10000 }
-    ensures next { IfOk result (λ next. IsNext count (prepend_known ahead.old (S.left source.old)) (prepend_known ahead.new (S.left source.new)) next) }
-    ensures stopped { result ≡ Err Stop.Failed → EndsAs count ahead.new BadScript }
+    requires room { most ≤ LIMIT }
+    ensures next { IfOk result (λ next. IsNext count most (prepend_known ahead.old (S.left source.old)) (prepend_known ahead.new (S.left source.new)) next) }
+    ensures stopped { result ≡ Err Stop.Failed → EndsAs count most ahead.new BadScript }
     ensures pending_err { result ≡ Err Stop.Failed → Keeps (prepend_known ahead.old (S.left source.old)) (prepend_known ahead.new (S.left source.new)) }
     ensures failed { result ≡ Err Stop.Failed → Rose (S.faults source.old) (S.faults source.new) }
     ensures later { S.faults source.old ≤ S.faults source.new }
@@ -140,19 +144,21 @@ fn take_request<S: Source>(
             ahead.skip(n + 1);
             Ok(Next::Request(Request::Bundle(domain)))
         }
-        Form::Update(size) => take_update(alloc, ahead, source, count, n, size),
+        Form::Update(size) => take_update(alloc, ahead, source, count, most, n, size),
     }
 }
 
-/// The next request of a script, or how the script ends behind so many requests. After `Failed` no whole request stands ahead.
+/// The next request of a script, or how the script ends, behind so many requests and where the next update may have so many bytes. After `Failed` no whole request stands ahead.
 pub fn next_request<S: Source>(
     alloc: Global,
     ahead: &mut Ahead,
     source: &mut S,
     count: u64,
+    most: u64,
 ) -> Result<Next, Stop>
-    ensures next { IfOk result (λ next. IsNext count (prepend_known ahead.old (S.left source.old)) (prepend_known ahead.new (S.left source.new)) next) }
-    ensures stopped { result ≡ Err Stop.Failed → EndsAs count ahead.new BadScript }
+    requires { most ≤ LIMIT }
+    ensures next { IfOk result (λ next. IsNext count most (prepend_known ahead.old (S.left source.old)) (prepend_known ahead.new (S.left source.new)) next) }
+    ensures stopped { result ≡ Err Stop.Failed → EndsAs count most ahead.new BadScript }
     ensures pending_err { result ≡ Err Stop.Failed → Keeps (prepend_known ahead.old (S.left source.old)) (prepend_known ahead.new (S.left source.new)) }
     ensures failed { result ≡ Err Stop.Failed → Rose (S.faults source.old) (S.faults source.new) }
     ensures later { S.faults source.old ≤ S.faults source.new }
@@ -169,7 +175,7 @@ pub fn next_request<S: Source>(
             if count >= MOST_REQUESTS {
                 return Ok(Next::End(Ending::TooLong));
             }
-            take_request(alloc, ahead, source, count, n, form)
+            take_request(alloc, ahead, source, count, most, n, form)
         }
     }
 }

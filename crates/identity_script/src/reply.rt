@@ -11,7 +11,7 @@ use std::alloc::{AllocError, Global};
 use std::sync::Arc;
 
 /// The reply to an update that was applied as this revision.
-pub(crate) fn accepted_text(alloc: Global, revision: u64) -> Result<Vec<u8>, AllocError>
+pub fn accepted_text(alloc: Global, revision: u64) -> Result<Vec<u8>, AllocError>
     ensures { IfOk result (λ reply. reply.items ≡ accepted_reply revision) }
 {
     Ok(format!(in alloc; "accepted {revision}\n")?.into_bytes())
@@ -42,7 +42,7 @@ fn push_standing(
 }
 
 /// The reply to a query for the default identity.
-pub(crate) fn svid_text(alloc: Global, state: &Snapshot) -> Result<Vec<u8>, AllocError>
+pub fn svid_text(alloc: Global, state: &Snapshot) -> Result<Vec<u8>, AllocError>
     ensures { IfOk result (λ reply. reply.items ≡ svid_reply state.now) }
 {
     let mut reply = format!(in alloc; "svid {} ", state.revision())?.into_bytes();
@@ -70,7 +70,7 @@ fn push_keys(
 }
 
 /// The reply to a query for the keys of a trust domain.
-pub(crate) fn bundle_text(
+pub fn bundle_text(
     alloc: Global,
     domain: &TrustDomain,
     state: &Snapshot,

@@ -12,7 +12,7 @@ use crate::laws::scripts_have_one_reading;
 use crate::reading::next_request;
 use crate::request::{Ending, Next};
 use identity_commands::Status;
-use identity_io::{Sink, Source, write_all};
+use identity_io::{LIMIT, Sink, Source, write_all};
 use identity_source::{IdentityReader, IdentitySource};
 use std::alloc::Global;
 use std::sync::Wait;
@@ -37,7 +37,7 @@ fn serve<R: Wait, S: Source, K: Sink>(
     let mut ahead = Ahead::new(alloc);
     let mut count = 0u64;
     'requests: loop {
-        let request = match next_request(alloc, &mut ahead, input, count) {
+        let request = match next_request(alloc, &mut ahead, input, count, LIMIT as u64) {
             Ok(Next::Request(request)) => request,
             Ok(Next::End(Ending::Done)) => return Status::Done,
             Ok(Next::End(Ending::TooLong)) => return Status::TooLong,

@@ -17,7 +17,7 @@ returns-then-count-ge-MOST_REQUESTS-clause-next g c =
       ended = some.2;
       is = subst (λ (l : List ℕ). Says (take c.in-Ok-Some.n l) (says.Request c.in-Request.form)) c.as_slice.ensures line;
     } in
-    too_many c.line_length.new.ahead _ _ c.in-Ok-Some.n c.args.count c.in-Request.form starts c.if-count-ge-MOST_REQUESTS.true e.pending
+    too_many c.line_length.new.ahead _ _ c.in-Ok-Some.n c.args.count c.args.most c.in-Request.form starts c.if-count-ge-MOST_REQUESTS.true e.pending
 
 pub returns-in-Other-clause-next : goal.returns-in-Other-clause-next
 returns-in-Other-clause-next g c =
@@ -31,4 +31,4 @@ returns-in-Other-clause-next g c =
       ended = some.2;
       is = subst (λ (l : List ℕ). Says (take c.in-Ok-Some.n l) says.Other) c.as_slice.ensures line;
     } in
-    no_request c.line_length.new.ahead _ _ c.in-Ok-Some.n c.args.count starts e.pending
+    no_request c.line_length.new.ahead _ _ c.in-Ok-Some.n c.args.count c.args.most starts e.pending

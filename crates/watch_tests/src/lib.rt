@@ -1,0 +1,7 @@
+//! Tests of `identity_watch`, over its public items alone.
+#![tactic(auto)]
+
+#[cfg(test)]
+mod texts;
+#[cfg(test)]
+mod threads;
