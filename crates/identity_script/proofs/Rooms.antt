@@ -1,5 +1,5 @@
 -- Requests whose updates have room.
-use Rattle.std.proofs.Common.{◌≡◌, ℕ, ◌+◌, ◌≤◌, List, [], ◌∷◌, ◌++◌, All, arith}
+use Rattle.std.proofs.Common.{◌≡◌, ◌+◌, ◌≤◌, List, [], ◌∷◌, ◌++◌, All, arith}
 use Rattle.std.proofs.lemmas.List.Elements.{All-head, All-tail}
 use Rattle.identity_script.specs.Request.{PlainRequest, text_size, IsRequest}
 use Rattle.identity_script.specs.Request.PlainRequest.{Update, Svid, Bundle}

@@ -162,7 +162,7 @@ fn answer<R: Threads + Wait + Sync, G: Gate + Sync>(
     text
 }
 
-/// Answers a script by this many workers, from 1 to 8: the script is read to its end, and a source is opened at revision 0; its first update is applied, and each worker's reader told of it; the other updates are applied while the workers look at the source once for each query. The replies to the updates are written first, and then each worker's own. It may wait for its own threads.
+/// Answers a script, read to its end first, by workers that look at one source while its updates are applied. It may wait for its own threads.
 pub fn watch<R: Threads + Wait + Sync, S: Source, K: Sink, G: Gate + Sync>(
     rt: &R,
     alloc: Global,
