@@ -1,7 +1,7 @@
 -- The words of a command line are one order at most.
-use Rattle.std.proofs.Common.{◌≡◌, ◌∙◌, ℕ, List, [], ◌∷◌, decimal, get_or, sym, ap}
+use Rattle.std.proofs.Common.{◌≡◌, ◌∙◌, ℕ, List, [], get_or, sym, ap}
 use Rattle.std.proofs.lemmas.Fmt.{decimal_injective}
-use Rattle.packing_program.specs.Words.{IsCommand, Order, WordsAreOneOrder}
+use Rattle.packing_program.specs.Words.{Order, WordsAreOneOrder}
 
 at : (k : ℕ) (words other : List (List ℕ)) → words ≡ other → get_or words k [] ≡ get_or other k []
 at k words other e = ap (λ l. get_or l k []) e
