@@ -1,0 +1,5 @@
+pub mod VerifyError
+pub mod Decoding
+pub mod JoseHeader
+pub mod TokenRules
+pub mod Views
