@@ -2,7 +2,7 @@
 use Rattle.std.specs.Prelude.{ℕ, nat_eq, nat_lt, ◌+◌, ◌-◌, ◌*◌, ◌==◌, ◌||◌, ◌&&◌, not, List, [], ◌∷◌, length, Bool, true, false, Result, Ok, Err, Option, Some, None, is_some, option_and_then, codes, if◌then◌else◌}
 use Rattle.std.specs.Option.{ok_or}
 use Rattle.std.specs.List.{list_any}
-use Rattle.std.specs.Int.{w8}
+use Rattle.std.specs.Int.{leading_zeros, w8}
 use Rattle.std.specs.Cmp.Lexicographic.{pointwise}
 use Rattle.serde_json.specs.Data.{Data}
 use Rattle.serde_json.specs.Find.{get, as_str, as_array}
@@ -117,3 +117,43 @@ unfoldable pub curve_key_rules : {E : Type 0} → (List ℕ → Option (List ℕ
 curve_key_rules decode alg is_384 d =
     then_ok (key_type_rule (codes "EC") (get (codes "kty") d)) (λ _. then_ok (curve_rule alg is_384 (get (codes "crv") d))
     (λ _. then_ok (coordinate_rule decode (size_of is_384) X (get (codes "x") d)) (λ _. coordinate_rule decode (size_of is_384) Y (get (codes "y") d))))
+
+-- the bytes of a number of an RSA key: some, and no more than it needs
+abbrev pub rsa_octets : {E : Type 0} → Field → List ℕ → Result (List ℕ) (VerifyError E)
+rsa_octets field [] = Err (InvalidAuthorityKeyComponent field)
+rsa_octets field (b ∷ []) = if b == 0 then Err (InvalidAuthorityKeyComponent field) else Ok (b ∷ [])
+rsa_octets field (b ∷ c ∷ more) = if b == 0 then Err (NonCanonicalRsaComponent field) else Ok (b ∷ c ∷ more)
+
+abbrev pub rsa_component : {E : Type 0} → (List ℕ → Option (List ℕ)) → Field → Option Data → Result (List ℕ) (VerifyError E)
+rsa_component decode field member = then_ok (component decode field member) (rsa_octets field)
+
+-- the bits of a number, the highest byte first, from the first that is set
+abbrev pub bits_of : List ℕ → ℕ
+bits_of [] = 0
+bits_of (b ∷ bs) = 8 * length bs + (8 - leading_zeros w8 b)
+
+-- 2,048 bits at least
+abbrev pub strength_rule : {E : Type 0} → List ℕ → Rule E
+strength_rule modulus = if nat_lt (bits_of modulus) 2048 then Err (WeakRsaAuthority (bits_of modulus)) else Ok tt
+
+-- an RSA key (RFC 7518, section 6.3)
+unfoldable pub rsa_key_rules : {E : Type 0} → (List ℕ → Option (List ℕ)) → Data → Rule E
+rsa_key_rules decode d =
+    then_ok (key_type_rule (codes "RSA") (get (codes "kty") d)) (λ _. then_ok (rsa_component decode N (get (codes "n") d))
+    (λ modulus. then_ok (rsa_component decode Exponent (get (codes "e") d)) (λ _. strength_rule modulus)))
+
+-- a key of the algorithm's kind
+abbrev pub key_rules : {E : Type 0} → (List ℕ → Option (List ℕ)) → JwtAlg → Data → Rule E
+key_rules decode ES256 d = curve_key_rules decode ES256 false d
+key_rules decode ES384 d = curve_key_rules decode ES384 true d
+key_rules decode ES512 d = rsa_key_rules decode d
+key_rules decode RS256 d = rsa_key_rules decode d
+key_rules decode RS384 d = rsa_key_rules decode d
+key_rules decode RS512 d = rsa_key_rules decode d
+key_rules decode PS256 d = rsa_key_rules decode d
+key_rules decode PS384 d = rsa_key_rules decode d
+key_rules decode PS512 d = rsa_key_rules decode d
+
+-- an authority whose JSON is this, for a token of this algorithm
+unfoldable pub authority_rules : {E : Type 0} → (List ℕ → Option (List ℕ)) → JwtAlg → Data → Rule E
+authority_rules decode alg d = then_ok (use_rules alg d) (λ _. key_rules decode alg d)

@@ -1,5 +1,5 @@
 -- Texts of base64url without padding (RFC 7515, section 2), each of which stands for bytes or for none.
-use Rattle.std.specs.Prelude.{◌≡◌, ℕ, List, nat_lt, length, Option, Some, None, if◌then◌else◌}
+use Rattle.std.specs.Prelude.{◌≡◌, ℕ, List, nat_lt, length, false, Option, Some, None, if◌then◌else◌}
 use Rattle.base64_alphabet.specs.Group.{High}
 use Rattle.base64_alphabets.specs.Url.{url}
 use Rattle.base64ct.specs.Canonical.{IsBytes, IsNoEncoding}

@@ -1,9 +1,10 @@
 -- The rules of a token's text, in their order.
-use Rattle.std.specs.Prelude.{ℕ, ◌+◌, ◌-◌, ◌&&◌, ℤ, pos, int_le, List, length, take, Result, Ok, Err, Option, Some, None, is_some, option_map, option_and_then, if◌then◌else◌}
+use Rattle.std.specs.Prelude.{ℕ, ◌+◌, ◌-◌, ◌&&◌, ℤ, pos, int_le, List, length, take, Bool, true, false, Result, Ok, Err, Option, Some, None, is_some, option_map, option_and_then, if◌then◌else◌}
 use Rattle.std.specs.Option.{ok_or}
 use Rattle.spiffe_id.specs.Rules.{map_ok, then_ok}
 use Rattle.spiffe_json.specs.Json.{json_of}
-use Rattle.spiffe_json.specs.declared.error.JsonError.TheVariants.{Syntax}
+use Rattle.spiffe_json.specs.declared.error.JsonError.{JsonError}
+use Rattle.spiffe_json.specs.declared.error.JsonError.TheVariants.{Syntax, Number, Keys, Shape}
 use Rattle.spiffe_token.specs.declared.error.JwtSvidError.TheVariants.{InvalidJwtFormat, InvalidBase64, InvalidJson}
 use Rattle.spiffe_token.specs.JwtSvid.{Svid, svid_of}
 use Rattle.spiffe_token.specs.Parts.{cut}
@@ -39,8 +40,14 @@ message_of token p = take (length token - length p.signature - 1) token
 abbrev pub octets_of : (List ℕ → Option (List ℕ)) → Parts → Option (List ℕ × List ℕ)
 octets_of decode p = option_and_then (λ header. option_map (λ claims. (header, claims)) (decode_part decode p.claims)) (decode_part decode p.header)
 
+abbrev pub is_syntax : JsonError → Bool
+is_syntax Syntax = true
+is_syntax Number = false
+is_syntax Keys = false
+is_syntax Shape = false
+
 -- the claims are JSON, whatever numbers stand in it
-unfoldable pub claims_rule : {E : Type 0} → List ℕ → Result (Unit {0}) (VerifyError E)
+abbrev pub claims_rule : {E : Type 0} → List ℕ → Result (Unit {0}) (VerifyError E)
 claims_rule claims = if is_some (json_of claims) then Ok tt else Err (Token (InvalidJson Syntax))
 
 -- the token's value and its time `nbf` in nanoseconds, by its header and its claims, or the first rule that they break

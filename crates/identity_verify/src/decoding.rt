@@ -15,8 +15,9 @@ pub(crate) fn decode(alloc: Global, text: &str) -> Result<Option<Vec<u8>>, Alloc
 {
     match Base64UrlUnpadded::decode_vec(alloc, text) {
         Ok(bytes) => Ok(Some(bytes)),
+        Err(Error::InvalidEncoding) => Ok(None),
+        Err(Error::InvalidLength) => Ok(None),
         Err(Error::OutOfMemory) => Err(AllocError),
-        Err(_) => Ok(None),
     }
 }
 

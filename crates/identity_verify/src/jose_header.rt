@@ -24,7 +24,12 @@ fn is_header_name(member: &Member) -> bool
 fn are_header_names(members: &[Member]) -> bool
     ensures { result ≡ list_all is_header_name (map member_of members.now) }
 {
-    members.iter().all(is_header_name)
+    for member in members {
+        if !is_header_name(member) {
+            return false;
+        }
+    }
+    true
 }
 
 fn is_once(members: &[Member], name: &str) -> bool
@@ -38,10 +43,12 @@ fn has_few_members<E>(alloc: Global, header: &[u8]) -> Result<bool, VerifyError<
     ensures err { IfErr result (λ e. e ≡ VerifyError.OutOfMemory) }
 {
     match top_members(alloc, header)? {
-        Some(members) => Ok(are_header_names(&members)
-            && is_once(&members, "alg")
-            && is_once(&members, "kid")
-            && is_once(&members, "typ")),
+        Some(members) => Ok(
+            are_header_names(&members)
+                && is_once(&members, "alg")
+                && is_once(&members, "kid")
+                && is_once(&members, "typ"),
+        ),
         None => Ok(false),
     }
 }

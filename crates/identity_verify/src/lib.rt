@@ -1,9 +1,15 @@
 //! Verification of JWT-SVIDs (JWT-SVID, section 4) without a network: a token is judged by the bundles that a source has.
 #![tactic(auto)]
 
+mod backend;
 mod decoding;
 mod error;
 mod jose_header;
+mod key_parts;
+mod key_use;
 mod token;
+mod verify;
 
+pub use backend::{Backend, Signature};
 pub use error::{Field, JwtVerificationError, JwtVerificationErrorKind, VerifyError};
+pub use verify::parse_and_validate;

@@ -1,9 +1,10 @@
 //! The rules of a token's text.
-ghost use Rattle.std.specs.Prelude.{◌≡◌, ◌≤◌, ℕ, List, Option, Ok, Err, option_map, length, IfOk, IfErr};
+ghost use Rattle.std.specs.Prelude.{◌≡◌, ◌≤◌, ℕ, List, Option, Ok, Err, option_map, is_some, length, IfOk, IfErr};
+ghost use Rattle.spiffe_json.specs.Json.{json_of};
 ghost use Rattle.spiffe_token.specs.Parts.{cut};
 ghost use Rattle.identity_verify.specs.VerifyError.{IsRefusal};
 ghost use Rattle.identity_verify.specs.Decoding.{IsDecoding};
-ghost use Rattle.identity_verify.specs.TokenRules.{time_rule, parts_of, message_of, claims_rule, json_rules, parts_rules, octets_of};
+ghost use Rattle.identity_verify.specs.TokenRules.{time_rule, parts_of, message_of, is_syntax, claims_rule, json_rules, parts_rules, octets_of};
 ghost use Rattle.identity_verify.specs.Views.{parts_value};
 
 use crate::decoding::decode_part;
@@ -81,7 +82,11 @@ impl Parts<'_> {
 
     /// The token, and the time that it is valid from.
     #[tactic(auto, unfolding(crate::specs::TokenRules::parts_rules))]
-    pub(crate) fn read<E: Drop>(&self, alloc: Global, token: &str) -> Result<(JwtSvid, Option<i128>), VerifyError<E>>
+    pub(crate) fn read<E: Drop>(
+        &self,
+        alloc: Global,
+        token: &str,
+    ) -> Result<(JwtSvid, Option<i128>), VerifyError<E>>
         ensures ok { (decode : List ℕ → Option (List ℕ)) → IsDecoding decode
             → IfOk result (λ p. parts_rules {E = E} decode token.now (parts_value self.now) ≡ Ok p) }
         ensures err { (decode : List ℕ → Option (List ℕ)) → IsDecoding decode
@@ -94,16 +99,32 @@ impl Parts<'_> {
     }
 }
 
-#[tactic(auto, unfolding(crate::specs::TokenRules::claims_rule))]
+fn is_syntax(broken: JsonError) -> bool
+    ensures { result ≡ is_syntax broken }
+{
+    matches!(broken, JsonError::Syntax)
+}
+
+// Whether the bytes are JSON, whatever numbers stand in it.
+fn is_json(alloc: Global, bytes: &[u8]) -> Result<bool, AllocError>
+    ensures { IfOk result (λ b. b ≡ is_some (json_of bytes.now)) }
+{
+    let broken = match read_json(alloc, bytes) {
+        Ok(_value) => return Ok(true),
+        Err(ReadError::Json(broken)) => broken,
+        Err(ReadError::OutOfMemory) => return Err(AllocError),
+    };
+    Ok(!is_syntax(broken))
+}
+
 fn check_claims<E: Drop>(alloc: Global, claims: &[u8]) -> Result<(), VerifyError<E>>
     ensures ok { IfOk result (λ u. claims_rule {E = E} claims.now ≡ Ok u) }
     ensures err { IfErr result (λ e. IsRefusal (claims_rule claims.now) e) }
 {
-    match read_json(alloc, claims) {
-        Err(ReadError::Json(JsonError::Syntax)) => Err(VerifyError::Token(JwtSvidError::InvalidJson(JsonError::Syntax))),
-        Err(ReadError::OutOfMemory) => Err(VerifyError::OutOfMemory),
-        _ => Ok(()),
+    if is_json(alloc, claims)? {
+        return Ok(());
     }
+    Err(VerifyError::Token(JwtSvidError::InvalidJson(JsonError::Syntax)))
 }
 
 #[tactic(auto, unfolding(crate::specs::TokenRules::json_rules))]

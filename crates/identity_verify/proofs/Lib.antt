@@ -1,0 +1,3 @@
+pub mod Decodings
+pub mod Readings
+pub mod Chains

@@ -1,0 +1,5 @@
+//! Tests of `token_time` and `identity_verify`, over their public items alone.
+#![tactic(auto)]
+
+#[cfg(test)]
+mod times;
