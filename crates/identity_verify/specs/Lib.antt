@@ -5,3 +5,5 @@ pub mod TokenRules
 pub mod Views
 pub mod Authority
 pub mod Verdict
+pub mod DigestBackend
+pub mod Current

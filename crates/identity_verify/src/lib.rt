@@ -2,7 +2,9 @@
 #![tactic(auto)]
 
 mod backend;
+mod current;
 mod decoding;
+mod digest;
 mod error;
 mod jose_header;
 mod key_parts;
@@ -11,5 +13,7 @@ mod token;
 mod verify;
 
 pub use backend::{Backend, Signature};
+pub use current::{Rejected, Verified, verify_current};
+pub use digest::DigestBackend;
 pub use error::{Field, JwtVerificationError, JwtVerificationErrorKind, VerifyError};
 pub use verify::parse_and_validate;

@@ -3,3 +3,5 @@
 
 #[cfg(test)]
 mod times;
+#[cfg(test)]
+mod verification;

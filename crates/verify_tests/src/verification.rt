@@ -159,7 +159,8 @@ fn set_of(rt: &impl Abort, alloc: Global, domain: &str, key: &str) -> JwtBundleS
     let domain = TrustDomain::new(alloc, domain).expect(rt, "a trust domain");
     let bundle = JwtBundle::from_jwt_authorities(alloc, domain, keys.as_bytes());
     let mut set = JwtBundleSet::new(alloc);
-    set.add_bundle(bundle.expect(rt, "keys")).expect(rt, "memory");
+    set.add_bundle(bundle.expect(rt, "keys"))
+        .expect(rt, "memory");
     set
 }
 
@@ -197,7 +198,11 @@ fn token_of(rt: &impl Abort, alloc: Global, case: &str, key: &str) -> String {
     token.expect(rt, "memory")
 }
 
-fn shown(rt: &impl Abort, alloc: Global, answer: Result<JwtSvid, VerifyError<Infallible>>) -> String {
+fn shown(
+    rt: &impl Abort,
+    alloc: Global,
+    answer: Result<JwtSvid, VerifyError<Infallible>>,
+) -> String {
     let text = match answer {
         Ok(svid) => format!(in alloc; "{}", svid.spiffe_id()),
         Err(VerifyError::BundleNotFound(domain)) => format!(in alloc; "BundleNotFound {domain}"),
@@ -215,13 +220,22 @@ fn answer(rt: &impl Abort, alloc: Global, case: &str) -> String {
     let key = key.expect(rt, "memory");
     let bundles = set_of(rt, alloc, line_of(rt, case, "domain"), key.as_str());
     let token = token_of(rt, alloc, case, key.as_str());
-    let now = line_of(rt, case, "now").parse::<i128>().expect(rt, "a time");
+    let now = line_of(rt, case, "now")
+        .parse::<i128>()
+        .expect(rt, "a time");
     let mut expected = Vec::new(alloc);
     for audience in line_of(rt, case, "want").split_whitespace() {
         let audience = String::from_str(alloc, audience).expect(rt, "memory");
         expected.push(audience).expect(rt, "memory");
     }
-    let answer = parse_and_validate(alloc, token.as_str(), &bundles, &expected, now, &DigestBackend);
+    let answer = parse_and_validate(
+        alloc,
+        token.as_str(),
+        &bundles,
+        &expected,
+        now,
+        &DigestBackend,
+    );
     shown(rt, alloc, answer)
 }
 
