@@ -1,5 +1,5 @@
 -- Rules that hold in turn.
-use Rattle.std.proofs.Common.{◌≡◌, Result, Ok, Err, refl}
+use Rattle.std.proofs.Common.{◌≡◌, Result, Ok, refl}
 use Rattle.spiffe_id.specs.Rules.{then_ok}
 use Rattle.identity_verify.specs.declared.error.VerifyError.{VerifyError}
 use Rattle.identity_verify.specs.Verdict.{Refusal, by_rule}

@@ -1,5 +1,5 @@
 -- The one answer to a text of base64url.
-use Rattle.std.proofs.Common.{◌≡◌, ℕ, false, List, Option, Some, None, refl, ap, sym}
+use Rattle.std.proofs.Common.{◌≡◌, ℕ, false, List, Option, Some, None, refl, ap}
 use Rattle.base64_alphabet.specs.Group.{High}
 use Rattle.base64_alphabets.specs.Url.{url}
 use Rattle.base64ct.specs.Canonical.{IsBytes, IsNoEncoding}

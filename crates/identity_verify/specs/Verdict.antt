@@ -14,7 +14,7 @@ use Rattle.spiffe_core.specs.KeySet.{find_authority}
 use Rattle.identity_verify.specs.declared.backend.Signature.{Signature}
 use Rattle.identity_verify.specs.declared.backend.Signature.TheVariants.{Good, Bad, Unusable}
 use Rattle.identity_verify.specs.declared.error.VerifyError.{VerifyError}
-use Rattle.identity_verify.specs.declared.error.VerifyError.TheVariants.{InvalidVerificationTime, Token, InvalidJoseHeader, InvalidNotBefore, BackendUnsupportedAlgorithm, BundleSourceError, BundleNotFound, AuthorityNotFound, InvalidToken, OutOfMemory}
+use Rattle.identity_verify.specs.declared.error.VerifyError.TheVariants.{BundleSourceError, BundleNotFound, AuthorityNotFound, InvalidToken, OutOfMemory}
 use Rattle.identity_verify.specs.declared.error.JwtVerificationErrorKind.TheVariants.{Expired, NotYetValid, AudienceMismatch, InvalidSignature, Other}
 use Rattle.identity_verify.specs.TokenRules.{Parts, time_rule, text_rule, parts_rules, message_of}
 use Rattle.identity_verify.specs.Authority.{Rule, supported_rule, authority_rules}

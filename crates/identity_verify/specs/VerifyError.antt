@@ -1,9 +1,9 @@
 -- Why a token isn't verified.
-use Rattle.std.specs.Prelude.{◌≡◌, ◌⊎◌, ℕ, List, string_bytes, Result, Ok, Err}
+use Rattle.std.specs.Prelude.{◌≡◌, ◌⊎◌, Result, Ok, Err}
 use Rattle.spiffe_token.specs.declared.error.JwtSvidError.{JwtSvidError}
 use Rattle.spiffe_token.specs.declared.error.JwtSvidError.TheVariants as token
 use Rattle.identity_verify.specs.declared.error.VerifyError.{VerifyError}
-use Rattle.identity_verify.specs.declared.error.VerifyError.TheVariants.{Token, AuthorityNotFound, OutOfMemory}
+use Rattle.identity_verify.specs.declared.error.VerifyError.TheVariants.{Token, OutOfMemory}
 
 -- the error is the rule that `expected` names, or want of memory, which can come before the rules
 abbrev pub IsRefusal : {T E : Type 0} → Result T (VerifyError E) → VerifyError E → Type 0

@@ -1,5 +1,5 @@
-use Rattle.std.proofs.Common.{◌≡◌, ◌∙◌, ap, Ok, IfErr}
-use Rattle.identity_verify.specs.Verdict.{IsVerifyRefusal, bundle_rule, key_id_rule, authority_for}
+use Rattle.std.proofs.Common.{◌≡◌, ◌∙◌, ap}
+use Rattle.identity_verify.specs.Verdict.{bundle_rule, key_id_rule, authority_for}
 use Rattle.identity_verify.specs.Authority.{supported_rule}
 use Rattle.identity_verify.proofs.Chains.{two_hold}
 use Rattle.identity_verify.proofs.verify.authority_for.Goals as goal
