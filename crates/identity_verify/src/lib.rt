@@ -9,6 +9,7 @@ mod error;
 mod jose_header;
 mod key_parts;
 mod key_use;
+pub mod laws;
 mod token;
 mod verify;
 
