@@ -1,0 +1,4 @@
+pub mod Decodings
+pub mod Readings
+pub mod Chains
+mod OneDecoding

@@ -1,0 +1,20 @@
+//! Verification of JWT-SVIDs (JWT-SVID, section 4) without a network: a token is judged by the bundles that a source has.
+#![tactic(auto)]
+
+mod backend;
+mod current;
+mod decoding;
+mod digest;
+mod error;
+mod jose_header;
+mod key_parts;
+mod key_use;
+pub mod laws;
+mod token;
+mod verify;
+
+pub use backend::{Backend, Signature};
+pub use current::{Rejected, Verified, verify_current};
+pub use digest::DigestBackend;
+pub use error::{Field, JwtVerificationError, JwtVerificationErrorKind, VerifyError};
+pub use verify::parse_and_validate;

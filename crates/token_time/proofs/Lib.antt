@@ -1,0 +1,4 @@
+pub mod Digits
+pub mod Powers
+pub mod Zeros
+pub mod Times

@@ -1,0 +1,5 @@
+pub mod Number
+pub mod Decimal
+pub mod Nanoseconds
+pub mod Views
+pub mod Quiet

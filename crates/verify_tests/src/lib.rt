@@ -1,0 +1,7 @@
+//! Tests of `token_time` and `identity_verify`, over their public items alone.
+#![tactic(auto)]
+
+#[cfg(test)]
+mod times;
+#[cfg(test)]
+mod verification;
