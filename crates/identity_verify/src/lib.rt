@@ -1,4 +1,5 @@
 //! Verification of JWT-SVIDs (JWT-SVID, section 4) without a network: a token is judged by the bundles that a source has.
+//! It ports a part of the crate `spiffe` and is offered under Apache-2.0 alone.
 #![tactic(auto)]
 
 mod backend;
