@@ -6,6 +6,7 @@ use Rattle.std.proofs.Math.Nat.{le-add_left, lt_of_le_of_lt}
 use Rattle.der_core.specs.Der.{length_bytes, encode}
 use Rattle.der_core.specs.LengthLaws.{length_bytes_le}
 use Rattle.der_core.specs.Decode.{ReadsTagged, ReadsAny}
+use Rattle.der_core.specs.Readings.{AreReadBack, AreWritten}
 
 -- The tag, the bytes of the length and the content.
 pub length_encode : (tag : ℕ) (content : List ℕ) → length (encode tag content) ≡ 1 + length (length_bytes (length content)) + length content
@@ -44,12 +45,17 @@ any_reads_encoding b tag content r = r.is
 pub any_encoding_reads : (tag : ℕ) (content : List ℕ) → length (encode tag content) < 2 ^ 32 → ReadsAny (encode tag content) tag content
 any_encoding_reads tag content fits = record { is = refl; fits = fits }
 
-pub tagged_reads_encoding : {V : Type 0} (tag : ℕ) (HasContent : List ℕ → V → Type 0) (content : V → List ℕ) → ((b : List ℕ) (v : V) → HasContent b v → b ≡ content v) → (b : List ℕ) (v : V) → ReadsTagged tag HasContent b v → b ≡ encode tag (content v)
+pub tagged_reads_encoding : {V : Type 0} (tag : ℕ) (HasContent : List ℕ → V → Type 0) (content : V → List ℕ) →
+    AreWritten HasContent content → (b : List ℕ) (v : V) → ReadsTagged tag HasContent b v →
+    b ≡ encode tag (content v)
 tagged_reads_encoding tag HasContent content law b v r = r.is ∙ ap (λ (x : List ℕ). encode tag x) (law r.content v r.has)
 
-pub tagged_encoding_reads : {V : Type 0} (tag : ℕ) (HasContent : List ℕ → V → Type 0) (content : V → List ℕ) → ((v : V) → length (content v) < 2 ^ 32 → HasContent (content v) v) → (v : V) → length (encode tag (content v)) < 2 ^ 32 → ReadsTagged tag HasContent (encode tag (content v)) v
+pub tagged_encoding_reads : {V : Type 0} (tag : ℕ) (HasContent : List ℕ → V → Type 0) (content : V → List ℕ) →
+    AreReadBack HasContent content → (v : V) → length (encode tag (content v)) < 2 ^ 32 →
+    ReadsTagged tag HasContent (encode tag (content v)) v
 tagged_encoding_reads tag HasContent content law v fits =
     record { content = content v; has = law v (content_fits tag (content v) fits); is = refl; fits = fits }
 
-pub tagged_begins : {V : Type 0} (fixed : ℕ) (HasContent : List ℕ → V → Type 0) (tag : ℕ) (rest : List ℕ) (v : V) → ReadsTagged fixed HasContent (tag ∷ rest) v → (tag == fixed) ≡ true
+pub tagged_begins : {V : Type 0} (fixed : ℕ) (HasContent : List ℕ → V → Type 0) (tag : ℕ) (rest : List ℕ) (v : V) →
+    ReadsTagged fixed HasContent (tag ∷ rest) v → (tag == fixed) ≡ true
 tagged_begins fixed HasContent tag rest v r = encode_head tag rest fixed r.content r.is

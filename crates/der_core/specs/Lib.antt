@@ -13,6 +13,7 @@ pub mod LengthLaws
 pub mod ObjectIdentifier
 pub mod Oid
 pub mod Order
+pub mod Readings
 pub mod Sequence
 pub mod SequenceLaws
 pub mod Tag

@@ -51,7 +51,8 @@ is_tag_tag n h e =
     let p = and_parts (ltb 0 n) (ltb (n % 32) 31) e in
     record { present = ltb-true 0 n p.0; byte = h; single = ltb-true (n % 32) 31 p.1 }
 
-pub read_value_again : (tag : ℕ) (content rest : List ℕ) → IsTag tag → length (encode tag content) < 2 ^ 32 → read_value (encode tag content ++ rest) ≡ Some (tag, content, rest)
+pub read_value_again : (tag : ℕ) (content rest : List ℕ) → IsTag tag → length (encode tag content) < 2 ^ 32 →
+    read_value (encode tag content ++ rest) ≡ Some (tag, content, rest)
 read_value_again tag content rest t fits =
     let small : length content < 4294967290 = fits_small tag content fits in
     let n : ℕ = length content in
@@ -62,7 +63,8 @@ read_value_again tag content rest t fits =
 pub Found : List ℕ → ℕ × List ℕ × List ℕ → Type 0
 Found s f = (s ≡ encode f.0 f.1 ++ f.2) × IsTag f.0 × (length (encode f.0 f.1) < 2 ^ 32)
 
-content_found : (tag : ℕ) (after : List ℕ) (l : Option (ℕ × List ℕ)) (f : ℕ × List ℕ × List ℕ) → IsBytes after → IsTag tag → read_length after ≡ l → content_at tag l ≡ Some f → Found (tag ∷ after) f
+content_found : (tag : ℕ) (after : List ℕ) (l : Option (ℕ × List ℕ)) (f : ℕ × List ℕ × List ℕ) → IsBytes after →
+    IsTag tag → read_length after ≡ l → content_at tag l ≡ Some f → Found (tag ∷ after) f
 unfolding Found Spells
 content_found tag after None f b t e h = cc
 content_found tag after (Some l) f b t e h =
@@ -90,17 +92,23 @@ read_value_found (tag ∷ after) f b e =
     (λ _ h. cc)
 
 -- What a reader found, whose answer is seen by the three functions.
-pub found_of : {X : Type 0} (r : Option X) (tag : X → ℕ) (content rest : X → List ℕ) (s : List ℕ) → IsBytes s → option_map (λ f. (tag f, content f, rest f)) r ≡ read_value s → IfSome r (λ f. s ≡ encode (tag f) (content f) ++ rest f)
+pub found_of : {X : Type 0} (r : Option X) (tag : X → ℕ) (content rest : X → List ℕ) (s : List ℕ) → IsBytes s →
+    option_map (λ f. (tag f, content f, rest f)) r ≡ read_value s →
+    IfSome r (λ f. s ≡ encode (tag f) (content f) ++ rest f)
 unfolding Found
 found_of None tag content rest s b e = tt
 found_of (Some x) tag content rest s b e = (read_value_found s (tag x, content x, rest x) b (sym e)).0
 
-pub fits_of : {X : Type 0} (r : Option X) (tag : X → ℕ) (content rest : X → List ℕ) (s : List ℕ) → IsBytes s → option_map (λ f. (tag f, content f, rest f)) r ≡ read_value s → IfSome r (λ f. length (encode (tag f) (content f)) < 2 ^ 32)
+pub fits_of : {X : Type 0} (r : Option X) (tag : X → ℕ) (content rest : X → List ℕ) (s : List ℕ) → IsBytes s →
+    option_map (λ f. (tag f, content f, rest f)) r ≡ read_value s →
+    IfSome r (λ f. length (encode (tag f) (content f)) < 2 ^ 32)
 unfolding Found
 fits_of None tag content rest s b e = tt
 fits_of (Some x) tag content rest s b e = (read_value_found s (tag x, content x, rest x) b (sym e)).2
 
-pub none_of : {X : Type 0} (r : Option X) (tag : X → ℕ) (content rest : X → List ℕ) (s : List ℕ) → option_map (λ f. (tag f, content f, rest f)) r ≡ read_value s → IfNone r ((b after : List ℕ) → IsValue b → s ≡ b ++ after → ⊥)
+pub none_of : {X : Type 0} (r : Option X) (tag : X → ℕ) (content rest : X → List ℕ) (s : List ℕ) →
+    option_map (λ f. (tag f, content f, rest f)) r ≡ read_value s →
+    IfNone r ((b after : List ℕ) → IsValue b → s ≡ b ++ after → ⊥)
 none_of None tag content rest s e =
     λ b after v is.
     let whole : s ≡ encode v.tag v.content ++ after = rw is (ap (λ (x : List ℕ). x ++ after) v.is) in
@@ -121,7 +129,9 @@ pub record SameValue (tag : ℕ) (content rest : List ℕ) (tag' : ℕ) (content
   pub rests : rest ≡ rest'
 
 -- One encoding at the front of the same bytes as another.
-pub same_value : (tag : ℕ) (content rest : List ℕ) (tag' : ℕ) (content' rest' : List ℕ) → IsTag tag → length (encode tag content) < 2 ^ 32 → IsTag tag' → length (encode tag' content') < 2 ^ 32 → encode tag content ++ rest ≡ encode tag' content' ++ rest' → SameValue tag content rest tag' content' rest'
+pub same_value : (tag : ℕ) (content rest : List ℕ) (tag' : ℕ) (content' rest' : List ℕ) → IsTag tag →
+    length (encode tag content) < 2 ^ 32 → IsTag tag' → length (encode tag' content') < 2 ^ 32 →
+    encode tag content ++ rest ≡ encode tag' content' ++ rest' → SameValue tag content rest tag' content' rest'
 same_value tag content rest tag' content' rest' t f t' f' e =
     let parts = same_Some _ _ (sym (read_value_again tag content rest t f) ∙ ap read_value e ∙ read_value_again tag' content' rest' t' f') in
     record {

@@ -16,7 +16,9 @@ pub trait FixedTag {
 
     const TAG: u8;
 
-    /// The tag, for generic code: contracts see what this call answers, and nothing of `TAG`. An implementation answers `Self::TAG`, which ties the two; where its block has type parameters, whose constants the toolchain does not evaluate, both name one constant of `Tag`.
+    /// The tag, for generic code: contracts see what this call answers, and nothing of `TAG`. An
+    /// implementation answers `Self::TAG`, which ties the two; where its block has type parameters,
+    /// whose constants the toolchain does not evaluate, both name one constant of `Tag`.
     fn tag_byte() -> u8
         ensures { result ≡ tag };
 }

@@ -9,7 +9,8 @@ use crate::Decode;
 
 /// An encoding is that of one tag and one content.
 pub fn encoding_has_one_value()
-    ensures { (t u : ℕ) (a b : List ℕ) → IsTag t → IsTag u → length (encode t a) < 2 ^ 32 → length (encode u b) < 2 ^ 32 → encode t a ≡ encode u b → (t ≡ u) × (a ≡ b) }
+    ensures { (t u : ℕ) (a b : List ℕ) → IsTag t → IsTag u → length (encode t a) < 2 ^ 32 →
+        length (encode u b) < 2 ^ 32 → encode t a ≡ encode u b → (t ≡ u) × (a ≡ b) }
 {}
 
 /// No value begins another.

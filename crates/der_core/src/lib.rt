@@ -1,4 +1,5 @@
-//! The base of DER (X.690): tags, lengths, values of any tag, object identifiers, a reader over borrowed bytes, and the traits by which a type says what it is read from and written as.
+//! The base of DER (X.690): tags, lengths, values of any tag, object identifiers, a reader over
+//! borrowed bytes, and the traits by which a type says what it is read from and written as.
 //!
 //! ```text
 //! let ed25519 = ObjectIdentifier::new("1.3.101.112")?;

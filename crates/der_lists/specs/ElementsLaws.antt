@@ -7,6 +7,7 @@ use Rattle.der_core.specs.SequenceLaws.{ReadsOne, then_same, front_fits, rest_fi
 use Rattle.der_core.specs.ValueLaws.{same_value}
 use Rattle.der_core.specs.Tags.{tag_48}
 use Rattle.der_lists.specs.Elements.{Elements, ReadsList}
+use Rattle.der_core.specs.Readings.{AreReadBack, AreWritten}
 
 abbrev HasByte : List ℕ → Type 0
 HasByte [] = ⊥
@@ -23,7 +24,8 @@ not_empty b rest v e =
     subst HasByte whole (encoding_has_byte v.tag v.content rest)
 
 -- Bytes are the encodings of one list of values.
-pub elements_one : {V : Type 0} (Reads : List ℕ → V → Type 0) → ReadsOne Reads → (vs ws : List V) (bytes : List ℕ) → Elements Reads vs bytes → Elements Reads ws bytes → vs ≡ ws
+pub elements_one : {V : Type 0} (Reads : List ℕ → V → Type 0) → ReadsOne Reads → (vs ws : List V) (bytes : List ℕ) →
+    Elements Reads vs bytes → Elements Reads ws bytes → vs ≡ ws
 elements_one Reads law [] [] bytes e f = refl
 elements_one Reads law [] (w ∷ ws) bytes e f = absurd (not_empty f.front f.rest (law.value f.front w f.reads) (sym f.is ∙ e))
 elements_one Reads law (v ∷ vs) [] bytes e f = absurd (not_empty e.front e.rest (law.value e.front v e.reads) (sym e.is ∙ f))
@@ -35,13 +37,17 @@ elements_one {V = V} Reads law (v ∷ vs) (w ∷ ws) bytes e f =
     ap with_first first ∙ ap with_rest (elements_one Reads law vs ws e.rest e.next same.next)
 
 -- Where each value is read exactly from its encoding, the bytes are the encodings.
-pub elements_written : {V : Type 0} (Reads : List ℕ → V → Type 0) (encoding : V → List ℕ) → ((b : List ℕ) (v : V) → Reads b v → b ≡ encoding v) → (vs : List V) (bytes : List ℕ) → Elements Reads vs bytes → bytes ≡ flat_map encoding vs
+pub elements_written : {V : Type 0} (Reads : List ℕ → V → Type 0) (encoding : V → List ℕ) →
+    AreWritten Reads encoding → (vs : List V) (bytes : List ℕ) → Elements Reads vs bytes →
+    bytes ≡ flat_map encoding vs
 elements_written Reads encoding law [] bytes e = e
 elements_written Reads encoding law (v ∷ vs) bytes e =
     e.is ∙ ap (λ (x : List ℕ). x ++ e.rest) (law e.front v e.reads) ∙ ap (λ (x : List ℕ). encoding v ++ x) (elements_written Reads encoding law vs e.rest e.next)
 
 -- And the encodings are read.
-pub elements_read : {V : Type 0} (Reads : List ℕ → V → Type 0) (encoding : V → List ℕ) → ((v : V) → length (encoding v) < 2 ^ 32 → Reads (encoding v) v) → (vs : List V) → length (flat_map encoding vs) < 2 ^ 32 → Elements Reads vs (flat_map encoding vs)
+pub elements_read : {V : Type 0} (Reads : List ℕ → V → Type 0) (encoding : V → List ℕ) →
+    AreReadBack Reads encoding → (vs : List V) → length (flat_map encoding vs) < 2 ^ 32 →
+    Elements Reads vs (flat_map encoding vs)
 elements_read Reads encoding law [] fits = refl
 elements_read Reads encoding law (v ∷ vs) fits = record {
   front = encoding v;

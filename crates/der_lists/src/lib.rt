@@ -1,4 +1,5 @@
-//! Lists of values of one type in DER (X.690, 8.10), read exactly and written exactly, whatever the type is. A content is read by `decode_all`, and the values of a slice are written by `SequenceOf`:
+//! Lists of values of one type in DER (X.690, 8.10), read exactly and written exactly, whatever the
+//! type is. A content is read by `decode_all`, and the values of a slice are written by `SequenceOf`:
 //!
 //! ```text
 //! let numbers: Vec<u8> = decode_all(alloc, &[2, 1, 7, 2, 1, 9])?;

@@ -1,4 +1,6 @@
-//! Values in DER (X.690): bit strings, octet strings, texts, small integers, object identifiers and values of any tag, each in borrowed bytes and most with bytes of their own, the traits by which further types are read and written, and documents of one value with their files.
+//! Values in DER (X.690): bit strings, octet strings, texts, small integers, object identifiers and
+//! values of any tag, each in borrowed bytes and most with bytes of their own, the traits by which
+//! further types are read and written, and documents of one value with their files.
 //!
 //! ```text
 //! let text = Utf8Ref::new("a")?;

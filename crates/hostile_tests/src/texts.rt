@@ -1,4 +1,6 @@
-//! The sample of the README, cut and damaged at each place. Which cuts are Base64 of whole blocks, and so bytes that are no document, follows from RFC 4648 section 4; the nested key set is put together from the grammar by a few lines of Python.
+//! The sample of the README, cut and damaged at each place. Which cuts are Base64 of whole blocks, and
+//! so bytes that are no document, follows from RFC 4648 section 4; the nested key set is put together
+//! from the grammar by a few lines of Python.
 use base64ct::Error as TextError;
 use der_core::Error;
 use identity_update::{Update, UpdateError};

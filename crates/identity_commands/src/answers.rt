@@ -48,7 +48,8 @@ fn answer_to(alloc: Global, width: usize, text: &[u8]) -> Result<Answer, AllocEr
     }
 }
 
-/// Reads the text of an update to its end, and writes its report or the line of its refusal. It takes up to `LIMIT` bytes, waits for nobody, and writes nothing before the answer is whole.
+/// Reads the text of an update to its end, and writes its report or the line of its refusal. It takes
+/// up to `LIMIT` bytes, waits for nobody, and writes nothing before the answer is whole.
 pub fn report<S: Source, K: Sink>(alloc: Global, width: usize, input: &mut S, out: &mut K) -> Status
     ensures shows { Shows width
         (record { left = S.left input.old; read_faults = S.faults input.old; written = K.written out.old; write_faults = K.faults out.old })

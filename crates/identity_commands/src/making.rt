@@ -74,7 +74,9 @@ fn lines_read_back(alloc: Global, n: u64) -> Result<Vec<u8>, AllocError>
     lines(alloc, &read, bytes.len())
 }
 
-/// Makes the update of `n` entries, from 1 to 10,000, writes it as a text in lines of 64 characters, reads that back, and prints how many entries were read, how many bytes the document and the text have, and the last entry's id. It waits for nobody, and writes nothing before all is read.
+/// Makes the update of `n` entries, from 1 to 10,000, writes it as a text in lines of 64 characters,
+/// reads that back, and prints how many entries were read, how many bytes the document and the text
+/// have, and the last entry's id. It waits for nobody, and writes nothing before all is read.
 pub fn make<K: Sink>(alloc: Global, n: u64, out: &mut K) -> Status
     requires { (1 ≤ n) × (n ≤ 10000) }
     ensures makes { Makes n (K.written out.old) (K.faults out.old) (K.written out.new) (K.faults out.new) result }

@@ -85,7 +85,9 @@ fn answer_by_source<R: Wait>(
     answer
 }
 
-/// Does what `report` does by a source that is opened at revision 0: the update is applied, its receipt told to a reader, and the report is of the state that the reader gives. It may wait for the reader, which is its own.
+/// Does what `report` does by a source that is opened at revision 0: the update is applied, its receipt
+/// told to a reader, and the report is of the state that the reader gives. It may wait for the reader,
+/// which is its own.
 pub fn show<R: Wait, S: Source, K: Sink>(
     rt: &R,
     alloc: Global,

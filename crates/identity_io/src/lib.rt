@@ -1,4 +1,6 @@
-//! Byte sources and sinks that count their faults, so that a contract can say what caused an answer: the traits, forms in memory that fail on demand, adapters over std's readers and writers, and reading or writing a whole input.
+//! Byte sources and sinks that count their faults, so that a contract can say what caused an answer:
+//! the traits, forms in memory that fail on demand, adapters over std's readers and writers, and
+//! reading or writing a whole input.
 //!
 //! ```text
 //! let mut source = MemorySource::new(b"bytes", &[1], 2);

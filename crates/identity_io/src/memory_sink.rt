@@ -28,7 +28,8 @@ impl<'a> Model for MemorySink<'a> {
 }
 
 impl<'a> MemorySink<'a> {
-    /// A sink that takes at most `piece` bytes a call, and whose call number k, counted from 0, fails where k is in `failing`, or where there is something to write and `room` is full.
+    /// A sink that takes at most `piece` bytes a call, and whose call number k, counted from 0, fails
+    /// where k is in `failing`, or where there is something to write and `room` is full.
     pub fn new(room: &'a mut [u8], failing: &'a [u64], piece: usize) -> Self
         requires { 1 ≤ piece }
         ensures { result ≡ record { written = []; room = length room.entry.now; failing = failing.now; piece = piece; calls = 0; faults = 0 } }
@@ -62,7 +63,8 @@ impl Sink for MemorySink<'_> {
         ensures some { 0 < length bytes.now → IfOk result (λ n. 0 < n) }
         ensures count { IfOk result (λ n. n ≡ min (min self.old.piece (length bytes.now)) (self.old.room - length self.old.written)) }
         ensures cause { HasCause self.old.faults self.new.faults result }
-        ensures fails { IsErr result ↔ (Contains self.old.failing self.old.calls ⊎ ((0 < length bytes.now) × (length self.old.written ≡ self.old.room))) }
+        ensures fails { IsErr result ↔ (Contains self.old.failing self.old.calls ⊎
+            ((0 < length bytes.now) × (length self.old.written ≡ self.old.room))) }
         ensures faults { self.new.faults ≡ (if is_ok result then self.old.faults else one_more self.old.faults) }
         ensures calls { self.new.calls ≡ one_more self.old.calls }
         ensures kept { (self.new.room ≡ self.old.room) × (self.new.failing ≡ self.old.failing) × (self.new.piece ≡ self.old.piece) }

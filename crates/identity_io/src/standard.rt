@@ -37,7 +37,8 @@ impl<R: Read> Source for StdSource<R> {
     }
 }
 
-/// A sink over a writer of std, standard output say. It tells what its writer tells. Each error of the writer is a fault, and so is a write that takes nothing of a piece that isn't empty.
+/// A sink over a writer of std, standard output say. It tells what its writer tells. Each error of the
+/// writer is a fault, and so is a write that takes nothing of a piece that isn't empty.
 #[derive(Drop)]
 pub struct StdSink<W> {
     inner: W,

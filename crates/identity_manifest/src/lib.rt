@@ -1,4 +1,5 @@
-//! Manifests: a JSON text that names the identities and bundles of an update, and the files that hold their keys. Reading one gives what it names, or the first rule that the text breaks.
+//! Manifests: a JSON text that names the identities and bundles of an update, and the files that hold
+//! their keys. Reading one gives what it names, or the first rule that the text breaks.
 //!
 //! ```text
 //! let value = read_value(alloc, text)?;

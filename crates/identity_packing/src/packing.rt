@@ -119,7 +119,10 @@ pub(crate) fn pack_update<D: Disk>(
     }
 }
 
-/// The text of the update that the manifest at this path is packed to, in lines of `width` characters, with the ending between two lines and none after the last. The files are read in the order of the manifest, and a key file as a document first. It answers the first rule that is broken, where the manifest and its files break one.
+/// The text of the update that the manifest at this path is packed to, in lines of `width` characters,
+/// with the ending between two lines and none after the last. The files are read in the order of the
+/// manifest, and a key file as a document first. It answers the first rule that is broken, where the
+/// manifest and its files break one.
 pub fn pack<D: Disk>(
     alloc: Global,
     disk: &mut D,

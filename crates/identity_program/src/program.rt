@@ -17,7 +17,9 @@ pub fn words_of(rt: &HostRuntime) -> io::Result<Vec<String>> {
     Ok(words)
 }
 
-/// Runs the words of the command line over standard input and standard output, and gives the exit status. Where it is above 1, one line on standard error says what it means; a failure there changes nothing.
+/// Runs the words of the command line over standard input and standard output, and gives the exit
+/// status. Where it is above 1, one line on standard error says what it means; a failure there changes
+/// nothing.
 pub fn run_program<W: Threads + Wait + Sync>(rt: &HostRuntime, wait: &W) -> ExitCode {
     let mut input = StdSource::new(rt.reader());
     let mut out = StdSink::new(io::writer(rt));

@@ -57,7 +57,9 @@ fn serve<R: Wait, S: Source, K: Sink>(
     }
 }
 
-/// Answers the requests of a script one by one, by a source that is opened at revision 0 and told to one reader: each reply is written before the next request is read. It may wait for the reader, which is its own.
+/// Answers the requests of a script one by one, by a source that is opened at revision 0 and told to
+/// one reader: each reply is written before the next request is read. It may wait for the reader, which
+/// is its own.
 pub fn session<R: Wait, S: Source, K: Sink>(
     rt: &R,
     alloc: Global,

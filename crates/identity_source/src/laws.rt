@@ -3,7 +3,9 @@ ghost use Rattle.std.specs.Prelude.{◌≡◌, List};
 ghost use Rattle.identity_source.specs.History.{EndsWith, IsHistory, StartsWith};
 ghost use Rattle.identity_source.specs.State.{PlainState};
 
-/// A list has one last state, and a revision names one state: where a list begins with another, and both end in states of one revision, these are one state. So what a reader gives at the revision of a receipt that it was told is the receipt's state.
+/// A list has one last state, and a revision names one state: where a list begins with another, and
+/// both end in states of one revision, these are one state. So what a reader gives at the revision of a
+/// receipt that it was told is the receipt's state.
 pub fn states_are_told_by_revision()
     ensures last { (list : List PlainState) (x y : PlainState) → EndsWith list x → EndsWith list y → y ≡ x }
     ensures revision { (whole seen : List PlainState) (x y : PlainState) → IsHistory whole → IsHistory seen → StartsWith whole seen

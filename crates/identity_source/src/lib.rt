@@ -1,4 +1,6 @@
-//! The identity source: one owner applies updates, and readers on any thread get whole states without waiting. A source, its readers and its receipts stand for one list of states: `apply` appends one state or nothing, and a reader never goes back behind what it gave or was told of.
+//! The identity source: one owner applies updates, and readers on any thread get whole states without
+//! waiting. A source, its readers and its receipts stand for one list of states: `apply` appends one
+//! state or nothing, and a reader never goes back behind what it gave or was told of.
 #![tactic(auto)]
 
 mod attempt;

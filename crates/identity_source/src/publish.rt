@@ -18,8 +18,14 @@ fn show<T: Absorb<O> + Drop, O: Drop, V, P: Protocol<T, V>, M: Outcome<T, V>, R:
     writer: &mut Writer<T, O, V, P>,
     rt: &R,
 ) -> Result<(), AllocError>
-    requires { (next : T) → T.state next ≡ fold T.applied (T.state writer.old.desk.shown.value) (drop writer.old.behind writer.old.log.items) → TurnsAt P.holds writer.old.desk.place.id (view writer.old.desk.place) writer.old.desk.shown.value next M.then }
-    ensures values { MatchResult result (λ _. (T.state writer.new.desk.shown.value ≡ fold T.applied (T.state writer.old.desk.shown.value) (drop writer.old.behind writer.old.log.items)) × (drop writer.new.behind writer.new.log.items ≡ [])) (λ _. (writer.new.desk.shown.value ≡ writer.old.desk.shown.value) × (drop writer.new.behind writer.new.log.items ≡ drop writer.old.behind writer.old.log.items)) }
+    requires { (next : T) →
+        T.state next ≡ fold T.applied (T.state writer.old.desk.shown.value) (drop writer.old.behind writer.old.log.items) →
+        TurnsAt P.holds writer.old.desk.place.id (view writer.old.desk.place) writer.old.desk.shown.value next M.then }
+    ensures values { MatchResult result (λ _. (T.state writer.new.desk.shown.value ≡
+        fold T.applied (T.state writer.old.desk.shown.value) (drop writer.old.behind writer.old.log.items)) ×
+        (drop writer.new.behind writer.new.log.items ≡ []))
+        (λ _. (writer.new.desk.shown.value ≡ writer.old.desk.shown.value) ×
+        (drop writer.new.behind writer.new.log.items ≡ drop writer.old.behind writer.old.log.items)) }
     ensures rule { MatchResult result (λ _. M.then (view writer.old.desk.place) writer.old.desk.shown.value writer.new.desk.shown.value (view writer.new.desk.place)) (λ _. view writer.new.desk.place ≡ view writer.old.desk.place) }
 {
     replace_with(writer, rt, |writer, rt| writer.publish_as::<M, R>(rt))
@@ -32,7 +38,8 @@ pub(crate) fn publish<R: Wait>(
     next: Published,
 ) -> Result<(), AllocError>
     requires { (next.name ≡ writer.old.desk.shown.value.name) × StartsWith next.list writer.old.desk.shown.value.list }
-    ensures { MatchResult result (λ _. (writer.new.desk.shown.value ≡ next) × (view writer.new.desk.place ≡ Some next)) (λ _. writer.new.desk.shown.value ≡ writer.old.desk.shown.value) }
+    ensures { MatchResult result (λ _. (writer.new.desk.shown.value ≡ next) × (view writer.new.desk.place ≡ Some next))
+        (λ _. writer.new.desk.shown.value ≡ writer.old.desk.shown.value) }
 {
     let Ok(()) = writer.append(next) else {
         return Err(AllocError);

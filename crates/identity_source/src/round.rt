@@ -25,7 +25,8 @@ pub(crate) fn round<R: Wait>(
     requires same { mine.now ≡ next }
     requires revision { next.revision ≡ last_revision writer.old.desk.shown.value.list + 1 }
     requires update { IsOpening next → ⊥ }
-    ensures mark { MatchResult result (λ m. (writer.new.desk.shown.value ≡ m) × (m ≡ appended writer.old.desk.shown.value next)) (λ _. writer.new.desk.shown.value ≡ writer.old.desk.shown.value) }
+    ensures mark { MatchResult result (λ m. (writer.new.desk.shown.value ≡ m) ×
+        (m ≡ appended writer.old.desk.shown.value next)) (λ _. writer.new.desk.shown.value ≡ writer.old.desk.shown.value) }
     ensures base { IsBase writer.new.desk.shown.value log.new }
 {
     let Some(trial) = log.begin::<Snapshot, Tries>(mine) else {

@@ -19,7 +19,9 @@ pub enum Missed {
 
 /// A view of what a source publishes.
 ///
-/// Contracts see the source's name, the list that was seen, what it must begin with from the next look on, and three counts, of looks, misses and refused shares. A count that stands at 2^64 - 1 counts as risen.
+/// Contracts see the source's name, the list that was seen, what it must begin with from the next look
+/// on, and three counts, of looks, misses and refused shares. A count that stands at 2^64 - 1 counts as
+/// risen.
 pub trait Window {
     ghost sight: { Self → Sight };
 

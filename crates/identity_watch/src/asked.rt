@@ -39,7 +39,8 @@ impl Asked {
 
     /// Adds a request, and tells how many bytes its text has.
     pub(crate) fn push(&mut self, request: Request) -> Result<u64, AllocError>
-        ensures updates { OnOk result ((name : List ℕ) → updates_in self.new.updates.items ≡ updates_in self.old.updates.items ++ updates_of (meaning name request ∷ [])) }
+        ensures updates { OnOk result ((name : List ℕ) → updates_in self.new.updates.items ≡
+            updates_in self.old.updates.items ++ updates_of (meaning name request ∷ [])) }
         ensures queries { OnOk result ((name : List ℕ) → self.new.queries.items ≡ self.old.queries.items ++ queries_of (meaning name request ∷ [])) }
         ensures size { IfOk result (λ size. (name : List ℕ) → size ≡ text_size (meaning name request)) }
     {

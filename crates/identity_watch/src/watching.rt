@@ -42,7 +42,8 @@ fn side_by_side<R: Threads + Wait + Sync, G: Gate + Sync>(
     requires kept { IsKept source.old.list applied.states.items }
     requires ready { All (HasRoom count) jobs.items }
     ensures many { IfOk result.0 (λ all. vec_len all ≡ vec_len jobs) }
-    ensures each { IfOk result.0 (λ all. (i : ℕ) (d : _) (j : _) → i < vec_len jobs → IsSeen (last_revision (slice_index_or jobs.items i j).reader.list) count (slice_index_or all.items i d).items) }
+    ensures each { IfOk result.0 (λ all. (i : ℕ) (d : _) (j : _) → i < vec_len jobs →
+        IsSeen (last_revision (slice_index_or jobs.items i j).reader.list) count (slice_index_or all.items i d).items) }
     ensures replies { IfOk result.1 (λ done. HaveReplies width source.old.list (updates_in texts.now) done.states.items applied.replies.items done.replies.items) }
     ensures list { IfOk result.1 (λ done. IsList done.states.items) }
 {

@@ -111,7 +111,8 @@ pub(crate) fn work_all<R: Threads + Sync, G: Gate + Sync>(
 ) -> Result<Vec<Vec<u64>>, AllocError>
     requires { All (HasRoom queries) jobs.items }
     ensures len { IfOk result (λ all. vec_len all ≡ vec_len jobs) }
-    ensures each { IfOk result (λ all. (i : ℕ) (d : _) (j : _) → i < vec_len jobs → IsSeen (last_revision (slice_index_or jobs.items i j).reader.list) queries (slice_index_or all.items i d).items) }
+    ensures each { IfOk result (λ all. (i : ℕ) (d : _) (j : _) → i < vec_len jobs →
+        IsSeen (last_revision (slice_index_or jobs.items i j).reader.list) queries (slice_index_or all.items i d).items) }
 {
     thread::map_vec(
         rt,

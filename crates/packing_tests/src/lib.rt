@@ -1,4 +1,6 @@
-//! Tests of `identity_packing` and `packing_program`, over their public items alone. Texts of updates are by a script outside this repository, from the grammar of `docs/FORMATS.md` alone: nested tag, length and content, then Base64 in lines.
+//! Tests of `identity_packing` and `packing_program`, over their public items alone. Texts of updates
+//! are by a script outside this repository, from the grammar of `docs/FORMATS.md` alone: nested tag,
+//! length and content, then Base64 in lines.
 #![tactic(auto)]
 
 #[cfg(test)]

@@ -12,6 +12,7 @@ use Rattle.pkcs8.specs.Version.{version_of, version_byte}
 use Rattle.pkcs8.specs.declared.private_key_info.PrivateKeyInfo.{PrivateKeyInfo}
 use Rattle.pkcs8.proofs.Keys.{PartValues}
 use Rattle.pkcs8.proofs.Parts.{PartsTo, fields_to}
+use Rattle.der_core.specs.Readings.{AreWritten}
 
 -- What is read of each part is what is written of it.
 pub record PartsWritten {A K B T : Type 0} (reads : PartReads A K B T) (texts : PartTexts A K B T) : Type 0 where
@@ -26,7 +27,7 @@ record Written {V : Type 0} (Reads : List ℕ → V → Type 0) (bytes text : Li
   pub value : V
   pub reads : Reads bytes value
 
-written : {V : Type 0} (Reads : List ℕ → V → Type 0) (text : V → List ℕ) → ((b : List ℕ) (v : V) → Reads b v → b ≡ text v) → (b : List ℕ) (v : V) → Reads b v → Written Reads b (text v)
+written : {V : Type 0} (Reads : List ℕ → V → Type 0) (text : V → List ℕ) → AreWritten Reads text → (b : List ℕ) (v : V) → Reads b v → Written Reads b (text v)
 written Reads text law b v r = record { is = sym (law b v r); value = v; reads = r }
 
 written_one : {V : Type 0} (Reads : List ℕ → V → Type 0) → ContentOne (Written Reads)

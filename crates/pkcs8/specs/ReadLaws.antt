@@ -20,6 +20,7 @@ use Rattle.pkcs8.specs.declared.error.Error.{Error}
 use Rattle.pkcs8.specs.declared.error.Error.TheVariants as error
 use Rattle.pkcs8.specs.declared.version.Version.{Version}
 use Rattle.pkcs8.specs.declared.version.Version.TheVariants.{V1, V2}
+use Rattle.der_core.specs.Readings.{AreValues}
 
 abbrev of_der : DerError → Error
 of_der e = error.Asn1 e
@@ -30,7 +31,9 @@ outcome_of Reads bytes (Err (error.Asn1 der.Malformed)) h = malformed refl h
 outcome_of Reads bytes (Err (error.Asn1 (der.TrailingData decoded remaining))) h = trailing decoded remaining refl h
 outcome_of Reads bytes (Err _) h = absurd h
 
-pub read_one_answer : {P : Type 0} (Reads : List ℕ → P → Type 0) → ReadsOne Reads → (bytes : List ℕ) (one other : Result P Error) → ReadAnswer Reads bytes one → ReadAnswer Reads bytes other → one ≡ other
+pub read_one_answer : {P : Type 0} (Reads : List ℕ → P → Type 0) → ReadsOne Reads →
+    (bytes : List ℕ) (one other : Result P Error) → ReadAnswer Reads bytes one → ReadAnswer Reads bytes other →
+    one ≡ other
 read_one_answer Reads law bytes one other h k = same_outcome of_der Reads law bytes one other (outcome_of Reads bytes one h) (outcome_of Reads bytes other k)
 
 pub read_no_file : {P : Type 0} (Reads : List ℕ → P → Type 0) (bytes : List ℕ) (e : Error) → ReadAnswer Reads bytes (Err e) → IsOfAFile e → ⊥
@@ -60,20 +63,24 @@ pub record BothThen {V : Type 0} (Reads : List ℕ → V → Type 0) (Next Next'
   pub next : Next rest
   pub next' : Next' rest
 
-both_then : {V : Type 0} (Reads : List ℕ → V → Type 0) (Next Next' : List ℕ → Type 0) (s : List ℕ) (v w : V) → ((b : List ℕ) (v : V) → Reads b v → IsValue b) → Then Reads Next s v → Then Reads Next' s w → BothThen Reads Next Next' v w
+both_then : {V : Type 0} (Reads : List ℕ → V → Type 0) (Next Next' : List ℕ → Type 0) (s : List ℕ) (v w : V) →
+    AreValues Reads → Then Reads Next s v → Then Reads Next' s w → BothThen Reads Next Next' v w
 both_then Reads Next Next' s v w law t u =
     let same = then_same Reads Next' s t.rest v w law (record { front = t.front; reads = t.reads; is = t.is }) u in
     record { front = t.front; rest = t.rest; reads = t.reads; reads' = same.reads; next = t.next; next' = same.next }
 
 -- Two readings of one tag are of the same content.
-pub same_contents : {V : Type 0} (tag : ℕ) (H : List ℕ → V → Type 0) → IsTag tag → (b : List ℕ) (v w : V) (r : ReadsTagged tag H b v) (s : ReadsTagged tag H b w) → r.content ≡ s.content
+pub same_contents : {V : Type 0} (tag : ℕ) (H : List ℕ → V → Type 0) → IsTag tag →
+    (b : List ℕ) (v w : V) (r : ReadsTagged tag H b v) (s : ReadsTagged tag H b w) → r.content ≡ s.content
 same_contents tag H t b v w r s =
     let fit : length (encode tag r.content) < 2 ^ 32 = subst (λ (x : List ℕ). length x < 2 ^ 32) r.is r.fits in
     let fit' : length (encode tag s.content) < 2 ^ 32 = subst (λ (x : List ℕ). length x < 2 ^ 32) s.is s.fits in
     (same_value tag r.content [] tag s.content [] t fit t fit' (ap (λ (x : List ℕ). x ++ []) (sym r.is ∙ s.is))).contents
 
 -- Values of one tag are as many as their contents.
-tagged_one : {V : Type 0} (tag : ℕ) (H : List ℕ → V → Type 0) → IsTag tag → ((c : List ℕ) (v w : V) → H c v → H c w → v ≡ w) → (b : List ℕ) (v w : V) → ReadsTagged tag H b v → ReadsTagged tag H b w → v ≡ w
+tagged_one : {V : Type 0} (tag : ℕ) (H : List ℕ → V → Type 0) → IsTag tag →
+    ((c : List ℕ) (v w : V) → H c v → H c w → v ≡ w) → (b : List ℕ) (v w : V) → ReadsTagged tag H b v →
+    ReadsTagged tag H b w → v ≡ w
 tagged_one tag H t one b v w r s = one s.content v w (subst (λ (x : List ℕ). H x v) (same_contents tag H t b v w r s) r.has) s.has
 
 abbrev IsZero : ℕ → Type 0
@@ -101,7 +108,8 @@ pub version_value : (b : List ℕ) (v : Version) → ReadsVersion b v → IsValu
 version_value b v r = ReadsTagged-one_value integer_tag _ b v tag_2 r
 
 -- Where attributes stand at the front, it is not so that none do.
-not_without : {T : Type 0} (H : List ℕ → T → Type 0) (Next : List ℕ → Type 0) (s : List ℕ) (v : T) → NoField attributes_tag s → Then (ReadsTagged attributes_tag H) Next s v → ⊥
+not_without : {T : Type 0} (H : List ℕ → T → Type 0) (Next : List ℕ → Type 0) (s : List ℕ) (v : T) →
+    NoField attributes_tag s → Then (ReadsTagged attributes_tag H) Next s v → ⊥
 not_without H Next s v none t =
     none t.reads.content t.rest (subst (λ (x : List ℕ). length x < 2 ^ 32) t.reads.is t.reads.fits) (t.is ∙ ap (λ (x : List ℕ). x ++ t.rest) t.reads.is)
 
@@ -113,7 +121,8 @@ IsV1 V2 = ⊥
 abbrev pub ContentOne : {X : Type 0} → (List ℕ → X → Type 0) → Type 0
 ContentOne {X = X} H = (c : List ℕ) (v w : X) → H c v → H c w → v ≡ w
 
-one_public : {B : Type 0} (H : List ℕ → B → Type 0) → ContentOne H → (s : List ℕ) (k l : Option B) → version_of k ≡ version_of l → AfterAttributes H k s → AfterAttributes H l s → k ≡ l
+one_public : {B : Type 0} (H : List ℕ → B → Type 0) → ContentOne H → (s : List ℕ) (k l : Option B) →
+    version_of k ≡ version_of l → AfterAttributes H k s → AfterAttributes H l s → k ≡ l
 one_public H one s None None e a b = refl
 one_public H one s None (Some l) e a b = absurd (subst IsV1 e tt)
 one_public H one s (Some k) None e a b = absurd (subst IsV1 (sym e) tt)
@@ -122,7 +131,9 @@ one_public {B = B} H one s (Some k) (Some l) e a b =
     let both = both_then (ReadsTagged public_key_tag H) IsExtensions IsExtensions s k l (λ b v r. ReadsTagged-one_value public_key_tag H b v tag_129 r) a b in
     ap some (tagged_one public_key_tag H tag_129 one both.front k l both.reads both.reads')
 
-one_tail : {B T : Type 0} (HT : List ℕ → T → Type 0) (HB : List ℕ → B → Type 0) → ContentOne HT → ContentOne HB → (s : List ℕ) (t u : Option T) (k l : Option B) → version_of k ≡ version_of l → AfterKey HT HB t k s → AfterKey HT HB u l s → (t ≡ u) × (k ≡ l)
+one_tail : {B T : Type 0} (HT : List ℕ → T → Type 0) (HB : List ℕ → B → Type 0) → ContentOne HT → ContentOne HB →
+    (s : List ℕ) (t u : Option T) (k l : Option B) → version_of k ≡ version_of l → AfterKey HT HB t k s →
+    AfterKey HT HB u l s → (t ≡ u) × (k ≡ l)
 one_tail HT HB oneT oneB s None None k l e a b = (refl, one_public HB oneB s k l e a.1 b.1)
 one_tail HT HB oneT oneB s None (Some u) k l e a b = absurd (not_without HT (AfterAttributes HB l) s u a.0 b)
 one_tail HT HB oneT oneB s (Some t) None k l e a b = absurd (not_without HT (AfterAttributes HB k) s t b.0 a)
@@ -139,7 +150,8 @@ pub record PartsOne {A K B T : Type 0} (reads : PartReads A K B T) : Type 0 wher
   pub public_key : ContentOne reads.public_key
 
 -- Keys with the same parts are the same.
-pub same_parts : {A K B T : Type 0} (v w : KeyParts A K B T) → v.algorithm ≡ w.algorithm → v.private_key ≡ w.private_key → v.attributes ≡ w.attributes → v.public_key ≡ w.public_key → v ≡ w
+pub same_parts : {A K B T : Type 0} (v w : KeyParts A K B T) → v.algorithm ≡ w.algorithm →
+    v.private_key ≡ w.private_key → v.attributes ≡ w.attributes → v.public_key ≡ w.public_key → v ≡ w
 same_parts {A = A} {K = K} {B = B} {T = T} v w a k t b =
     let with_algorithm : A → KeyParts A K B T = λ x. record { algorithm = x; private_key = v.private_key; attributes = v.attributes; public_key = v.public_key } in
     let with_key : K → KeyParts A K B T = λ x. record { algorithm = w.algorithm; private_key = x; attributes = v.attributes; public_key = v.public_key } in
@@ -147,7 +159,8 @@ same_parts {A = A} {K = K} {B = B} {T = T} v w a k t b =
     let with_public : Option B → KeyParts A K B T = λ x. record { algorithm = w.algorithm; private_key = w.private_key; attributes = w.attributes; public_key = x } in
     ap with_algorithm a ∙ ap with_key k ∙ ap with_attributes t ∙ ap with_public b
 
-pub one_fields : {A K B T : Type 0} (reads : PartReads A K B T) → PartsOne reads → (s : List ℕ) (v w : KeyParts A K B T) → PrivateKeyFields reads s v → PrivateKeyFields reads s w → v ≡ w
+pub one_fields : {A K B T : Type 0} (reads : PartReads A K B T) → PartsOne reads →
+    (s : List ℕ) (v w : KeyParts A K B T) → PrivateKeyFields reads s v → PrivateKeyFields reads s w → v ≡ w
 one_fields reads one s v w r r' =
     let versions = both_then ReadsVersion _ _ s (version_of v.public_key) (version_of w.public_key) version_value r r' in
     let algorithms = both_then reads.algorithm _ _ versions.rest v.algorithm w.algorithm one.algorithm.value versions.next versions.next' in
@@ -177,5 +190,6 @@ reads_one_private_key = record {
   one = tagged_one sequence_tag PlainKeyContent tag_48 key_one;
 }
 
-pub private_key_one_answer : (bytes : List ℕ) (one other : Result PlainPrivateKey Error) → ReadAnswer ReadsPrivateKey bytes one → ReadAnswer ReadsPrivateKey bytes other → one ≡ other
+pub private_key_one_answer : (bytes : List ℕ) (one other : Result PlainPrivateKey Error) →
+    ReadAnswer ReadsPrivateKey bytes one → ReadAnswer ReadsPrivateKey bytes other → one ≡ other
 private_key_one_answer = read_one_answer ReadsPrivateKey reads_one_private_key

@@ -1,4 +1,5 @@
-//! Private keys in PKCS #8 (RFC 5208, section 5, and RFC 5958, section 2): both versions, their documents, and the traits of types that are read from private key documents or written as such.
+//! Private keys in PKCS #8 (RFC 5208, section 5, and RFC 5958, section 2): both versions, their
+//! documents, and the traits of types that are read from private key documents or written as such.
 //!
 //! A key is written with all that was read of it but extensions. To pass it on without its friendly name:
 //!

@@ -23,7 +23,9 @@ use spki::AlgorithmIdentifier;
 use std::alloc::Global;
 use std::fmt;
 
-/// A private key and what it is a key of. Its debug form shows neither the key nor the attributes, and of parameters whose encoding has more than 128 bytes `..` alone. `Debug` of the field `private_key` by itself shows the octets.
+/// A private key and what it is a key of. Its debug form shows neither the key nor the attributes, and
+/// of parameters whose encoding has more than 128 bytes `..` alone. `Debug` of the field `private_key`
+/// by itself shows the octets.
 #[derive(Clone, Drop, PartialEq, Eq)]
 pub struct PrivateKeyInfo<Params, Key, PubKey, Attrs> {
     /// What the key is a key of.

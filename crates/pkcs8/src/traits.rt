@@ -41,7 +41,9 @@ impl BitStringLike for BitString {
     }
 }
 
-/// A type that is read from the document of a private key. A type of one algorithm's keys says by `TakesSome` which of the keys of `PrivateKeyInfoOwned` it takes, and has its two laws by `takes_some_one` and `takes_some_no_file`.
+/// A type that is read from the document of a private key. A type of one algorithm's keys says by
+/// `TakesSome` which of the keys of `PrivateKeyInfoOwned` it takes, and has its two laws by
+/// `takes_some_one` and `takes_some_no_file`.
 pub trait DecodePrivateKey: Sized + Drop {
     // What contracts see of a key.
     ghost Plain: { Type 0 };
@@ -80,7 +82,10 @@ pub trait EncodePrivateKey {
 
     ghost no_file: { (v : Self) (e : Refusal) → document v ≡ Err e → IsOfAFile e → ⊥ };
 
-    /// Writes the document of the key to a file, which is not protected: that is the caller's to do. `StdDisk` makes a new file that all may read, as far as the mask of the process lets them, and leaves an old file its permissions. It empties an old file before it writes: after a fault the file may hold a first part of the document, or nothing, and the old key is gone.
+    /// Writes the document of the key to a file, which is not protected: that is the caller's to do.
+    /// `StdDisk` makes a new file that all may read, as far as the mask of the process lets them, and
+    /// leaves an old file its permissions. It empties an old file before it writes: after a fault the
+    /// file may hold a first part of the document, or nothing, and the old key is gone.
     final fn write_pkcs8_der_file<D: Disk>(
         &self,
         alloc: Global,

@@ -21,13 +21,14 @@ use Rattle.spki.specs.PublicKey.{PublicKeyContent, public_key_content}
 use Rattle.spki.specs.PublicKeyLaws.{public_key_reads_content, public_key_content_reads}
 use Rattle.spki.specs.Written.{ReadsDer}
 use Rattle.spki.proofs.Oids.{oid_of, oid_of_content}
+use Rattle.der_core.specs.Readings.{AreReadBack, AreWritten}
 
 -- A borrowed value for each plain one, where its bytes can be borrowed.
 pub record Borrows {V P : Type 0} (plain : V → P) (der : P → List ℕ) (IsLawful : P → Type 0) : Type 0 where
   pub of : (p : P) → IsLawful p → length (der p) < 2 ^ 32 → V
   pub is : (p : P) (lawful : IsLawful p) (fits : length (der p) < 2 ^ 32) → plain (of p lawful fits) ≡ p
 
-pub same_written : {V P : Type 0} (Reads : List ℕ → V → Type 0) (encoding : V → List ℕ) (plain : V → P) (der : P → List ℕ) (IsLawful : P → Type 0) → ((b : List ℕ) (v : V) → Reads b v → b ≡ encoding v) → ((b : List ℕ) (v : V) → Reads b v → length b < 2 ^ 32) → ((v : V) → length (encoding v) < 2 ^ 32 → Reads (encoding v) v) → ((v : V) → encoding v ≡ der (plain v)) → ((v : V) → IsLawful (plain v)) → Borrows plain der IsLawful → SameReads Reads (ReadsDer der IsLawful)
+pub same_written : {V P : Type 0} (Reads : List ℕ → V → Type 0) (encoding : V → List ℕ) (plain : V → P) (der : P → List ℕ) (IsLawful : P → Type 0) → AreWritten Reads encoding → ((b : List ℕ) (v : V) → Reads b v → length b < 2 ^ 32) → AreReadBack Reads encoding → ((v : V) → encoding v ≡ der (plain v)) → ((v : V) → IsLawful (plain v)) → Borrows plain der IsLawful → SameReads Reads (ReadsDer der IsLawful)
 same_written {V = V} {P = P} Reads encoding plain der IsLawful written short read seen lawful borrow =
     let fits_of : (b : List ℕ) (p : P) → ReadsDer der IsLawful b p → length (der p) < 2 ^ 32 = λ b p r. rw (← r.is) r.fits in
     record {

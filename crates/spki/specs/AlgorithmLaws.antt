@@ -6,21 +6,29 @@ use Rattle.der_core.specs.ObjectIdentifier.{oid_content}
 use Rattle.der_core.specs.Tags.{oid_tag}
 use Rattle.spki.specs.declared.algorithm.AlgorithmIdentifier.{AlgorithmIdentifier}
 use Rattle.spki.specs.Algorithm.{AreParameters, AlgorithmContent, optional_bytes, algorithm_content}
+use Rattle.der_core.specs.Readings.{AreReadBack, AreWritten}
 
-parameters_are : {P : Type 0} (Reads : List ℕ → P → Type 0) (encoding : P → List ℕ) (rest : List ℕ) (p : Option P) → ((b : List ℕ) (v : P) → Reads b v → b ≡ encoding v) → AreParameters Reads p rest → rest ≡ optional_bytes encoding p
+parameters_are : {P : Type 0} (Reads : List ℕ → P → Type 0) (encoding : P → List ℕ) (rest : List ℕ) (p : Option P) →
+    AreWritten Reads encoding → AreParameters Reads p rest → rest ≡ optional_bytes encoding p
 parameters_are Reads encoding rest None law a = a
 parameters_are Reads encoding rest (Some p) law a = law rest p a
 
-parameters_read : {P : Type 0} (Reads : List ℕ → P → Type 0) (encoding : P → List ℕ) (p : Option P) → ((v : P) → length (encoding v) < 2 ^ 32 → Reads (encoding v) v) → length (optional_bytes encoding p) < 2 ^ 32 → AreParameters Reads p (optional_bytes encoding p)
+parameters_read : {P : Type 0} (Reads : List ℕ → P → Type 0) (encoding : P → List ℕ) (p : Option P) →
+    AreReadBack Reads encoding → length (optional_bytes encoding p) < 2 ^ 32 →
+    AreParameters Reads p (optional_bytes encoding p)
 parameters_read Reads encoding None law fits = refl
 parameters_read Reads encoding (Some p) law fits = law p fits
 
-pub algorithm_reads_content : {P : Type 0} (Reads : List ℕ → P → Type 0) (encoding : P → List ℕ) → ((b : List ℕ) (v : P) → Reads b v → b ≡ encoding v) → (b : List ℕ) (v : AlgorithmIdentifier P) → AlgorithmContent Reads b v → b ≡ algorithm_content encoding v
+pub algorithm_reads_content : {P : Type 0} (Reads : List ℕ → P → Type 0) (encoding : P → List ℕ) →
+    AreWritten Reads encoding → (b : List ℕ) (v : AlgorithmIdentifier P) → AlgorithmContent Reads b v →
+    b ≡ algorithm_content encoding v
 algorithm_reads_content Reads encoding law b v a =
     let o : a.front ≡ encode oid_tag (oid_content v.oid) = a.reads.is ∙ ap (λ (x : List ℕ). encode oid_tag x) (sym a.reads.has) in
     a.is ∙ ap (λ (x : List ℕ). x ++ a.rest) o ∙ ap (λ (x : List ℕ). encode oid_tag (oid_content v.oid) ++ x) (parameters_are Reads encoding a.rest v.parameters law a.next)
 
-pub algorithm_content_reads : {P : Type 0} (Reads : List ℕ → P → Type 0) (encoding : P → List ℕ) → ((v : P) → length (encoding v) < 2 ^ 32 → Reads (encoding v) v) → (v : AlgorithmIdentifier P) → length (algorithm_content encoding v) < 2 ^ 32 → AlgorithmContent Reads (algorithm_content encoding v) v
+pub algorithm_content_reads : {P : Type 0} (Reads : List ℕ → P → Type 0) (encoding : P → List ℕ) →
+    AreReadBack Reads encoding → (v : AlgorithmIdentifier P) → length (algorithm_content encoding v) < 2 ^ 32 →
+    AlgorithmContent Reads (algorithm_content encoding v) v
 algorithm_content_reads Reads encoding law v fits =
     let o : List ℕ = encode oid_tag (oid_content v.oid) in
     let p : List ℕ = optional_bytes encoding v.parameters in

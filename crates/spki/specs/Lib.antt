@@ -3,6 +3,7 @@ pub mod Algorithm
 pub mod AlgorithmLaws
 pub mod AlgorithmOids
 pub mod Answers
+pub mod Copies
 pub mod Error
 pub mod Fingerprint
 pub mod Identifier

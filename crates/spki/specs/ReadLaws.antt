@@ -23,7 +23,8 @@ pub data Outcome {P E : Type 0} (asn1 : DerError → E) (Reads : List ℕ → P 
   malformed : r ≡ Err (asn1 der.Malformed) → NoFront Reads bytes → Outcome asn1 Reads bytes r
   trailing : (decoded remaining : ℕ) → r ≡ Err (asn1 (der.TrailingData decoded remaining)) → Trails Reads bytes decoded remaining → Outcome asn1 Reads bytes r
 
-pub same_outcome : {P E : Type 0} (asn1 : DerError → E) (Reads : List ℕ → P → Type 0) → ReadsOne Reads → (bytes : List ℕ) (r s : Result P E) → Outcome asn1 Reads bytes r → Outcome asn1 Reads bytes s → r ≡ s
+pub same_outcome : {P E : Type 0} (asn1 : DerError → E) (Reads : List ℕ → P → Type 0) → ReadsOne Reads →
+    (bytes : List ℕ) (r s : Result P E) → Outcome asn1 Reads bytes r → Outcome asn1 Reads bytes s → r ≡ s
 same_outcome {P = P} {E = E} asn1 Reads law bytes r s (read v e h) (read w f k) = let ok : P → Result P E = λ x. Ok x in e ∙ ap ok (law.one bytes v w h k) ∙ sym f
 same_outcome asn1 Reads law bytes r s (read v e h) (malformed f k) = absurd (no_front_of Reads bytes v h k)
 same_outcome asn1 Reads law bytes r s (read v e h) (trailing d n f k) = absurd (no_trail_of Reads law bytes v d n h k)
@@ -47,7 +48,9 @@ outcome_of Reads bytes (Err (error.Asn1 der.Malformed)) h = malformed refl h
 outcome_of Reads bytes (Err (error.Asn1 (der.TrailingData decoded remaining))) h = trailing decoded remaining refl h
 outcome_of Reads bytes (Err _) h = absurd h
 
-pub read_one_answer : {P : Type 0} (Reads : List ℕ → P → Type 0) → ReadsOne Reads → (bytes : List ℕ) (one other : Result P Error) → ReadAnswer Reads bytes one → ReadAnswer Reads bytes other → one ≡ other
+pub read_one_answer : {P : Type 0} (Reads : List ℕ → P → Type 0) → ReadsOne Reads →
+    (bytes : List ℕ) (one other : Result P Error) → ReadAnswer Reads bytes one → ReadAnswer Reads bytes other →
+    one ≡ other
 read_one_answer Reads law bytes one other h k = same_outcome of_der Reads law bytes one other (outcome_of Reads bytes one h) (outcome_of Reads bytes other k)
 
 pub read_no_file : {P : Type 0} (Reads : List ℕ → P → Type 0) (bytes : List ℕ) (e : Error) → ReadAnswer Reads bytes (Err e) → IsOfAFile e → ⊥
@@ -75,7 +78,9 @@ some_encoding : (p : PlainAny) → [] ≡ der_of p → ⊥
 unfolding encode
 some_encoding p e = subst HoldsNothing e tt
 
-same_parameters : (o q : Option PlainAny) → IfSome o (λ p. IsTag p.tag) → IfSome q (λ p. IsTag p.tag) → length (optional_bytes der_of o) < 2 ^ 32 → length (optional_bytes der_of q) < 2 ^ 32 → optional_bytes der_of o ≡ optional_bytes der_of q → o ≡ q
+same_parameters : (o q : Option PlainAny) → IfSome o (λ p. IsTag p.tag) → IfSome q (λ p. IsTag p.tag) →
+    length (optional_bytes der_of o) < 2 ^ 32 → length (optional_bytes der_of q) < 2 ^ 32 →
+    optional_bytes der_of o ≡ optional_bytes der_of q → o ≡ q
 same_parameters None None lo lq fo fq e = refl
 same_parameters None (Some q) lo lq fo fq e = absurd (some_encoding q e)
 same_parameters (Some p) None lo lq fo fq e = absurd (some_encoding p (sym e))
@@ -85,7 +90,11 @@ same_parameters (Some p) (Some q) lo lq fo fq e =
     let with_content : List ℕ → Option PlainAny = λ c. Some (record { tag = q.tag; content = c }) in
     ap with_tag same.tags ∙ ap with_content same.contents
 
-same_fields : (p q : PlainAlgorithm) → IsAlgorithm p → IsAlgorithm q → length (encode oid_tag p.oid ++ optional_bytes der_of p.parameters) < 2 ^ 32 → length (encode oid_tag q.oid ++ optional_bytes der_of q.parameters) < 2 ^ 32 → encode oid_tag p.oid ++ optional_bytes der_of p.parameters ≡ encode oid_tag q.oid ++ optional_bytes der_of q.parameters → p ≡ q
+same_fields : (p q : PlainAlgorithm) → IsAlgorithm p → IsAlgorithm q →
+    length (encode oid_tag p.oid ++ optional_bytes der_of p.parameters) < 2 ^ 32 →
+    length (encode oid_tag q.oid ++ optional_bytes der_of q.parameters) < 2 ^ 32 →
+    encode oid_tag p.oid ++ optional_bytes der_of p.parameters ≡ encode oid_tag q.oid ++ optional_bytes der_of q.parameters →
+    p ≡ q
 same_fields p q lp lq fp fq e =
     let same = same_value 6 p.oid (optional_bytes der_of p.parameters) 6 q.oid (optional_bytes der_of q.parameters) tag_6 (front_fits (encode oid_tag p.oid) (optional_bytes der_of p.parameters) fp) tag_6 (front_fits (encode oid_tag q.oid) (optional_bytes der_of q.parameters) fq) e in
     let parameters = same_parameters p.parameters q.parameters lp.parameters lq.parameters (rest_fits (encode oid_tag p.oid) (optional_bytes der_of p.parameters) fp) (rest_fits (encode oid_tag q.oid) (optional_bytes der_of q.parameters) fq) same.rests in
@@ -101,7 +110,8 @@ abbrev after_first : List ℕ → List ℕ
 after_first [] = []
 after_first (x ∷ xs) = xs
 
-same_keys : (p q : PlainPublicKey) → IsPublicKey p → IsPublicKey q → length (public_key_der p) < 2 ^ 32 → length (public_key_der q) < 2 ^ 32 → public_key_der p ≡ public_key_der q → p ≡ q
+same_keys : (p q : PlainPublicKey) → IsPublicKey p → IsPublicKey q → length (public_key_der p) < 2 ^ 32 →
+    length (public_key_der q) < 2 ^ 32 → public_key_der p ≡ public_key_der q → p ≡ q
 same_keys p q lp lq fp fq e =
     let key_p : List ℕ = encode bit_string_tag (p.key.unused_bits ∷ p.key.octets) in
     let key_q : List ℕ = encode bit_string_tag (q.key.unused_bits ∷ q.key.octets) in
@@ -138,7 +148,8 @@ public_key_one b p q r s = same_keys p q r.lawful s.lawful (subst (λ (x : List 
 pub reads_one_public_key : ReadsOne ReadsPublicKey
 reads_one_public_key = record { value = public_key_value; one = public_key_one }
 
-pub public_key_one_answer : (bytes : List ℕ) (one other : Result PlainPublicKey Error) → ReadAnswer ReadsPublicKey bytes one → ReadAnswer ReadsPublicKey bytes other → one ≡ other
+pub public_key_one_answer : (bytes : List ℕ) (one other : Result PlainPublicKey Error) →
+    ReadAnswer ReadsPublicKey bytes one → ReadAnswer ReadsPublicKey bytes other → one ≡ other
 public_key_one_answer = read_one_answer ReadsPublicKey reads_one_public_key
 
 pub algorithm_one : (b : List ℕ) (p q : PlainAlgorithm) → ReadsAlgorithm b p → ReadsAlgorithm b q → p ≡ q

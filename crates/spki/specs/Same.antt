@@ -32,7 +32,8 @@ options_decide same decides (Some x) None = (λ e. cc, λ e. cc)
 options_decide {X = X} same decides (Some x) (Some y) = let some : X → Option X = λ z. Some z in (λ e. ap some ((decides x y).0 e), λ e. (decides x y).1 (same_Some x y e))
 
 -- Optional parts that are seen in another way.
-pub options_seen : {X Y : Type 0} (same : Y → Y → Bool) (seen : X → Y) (p q : Option X) → option_eq (λ x y. same (seen x) (seen y)) p q ≡ option_eq same (option_map seen p) (option_map seen q)
+pub options_seen : {X Y : Type 0} (same : Y → Y → Bool) (seen : X → Y) (p q : Option X) →
+    option_eq (λ x y. same (seen x) (seen y)) p q ≡ option_eq same (option_map seen p) (option_map seen q)
 options_seen same seen None None = refl
 options_seen same seen None (Some y) = refl
 options_seen same seen (Some x) None = refl

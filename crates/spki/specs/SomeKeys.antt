@@ -27,13 +27,17 @@ OneAnswer {P = P} {E = E} HasAnswer = (bytes : List ℕ) (one other : Result P E
 abbrev pub NoSuchRefusal : {P E : Type 0} → (E → Type 0) → (List ℕ → Result P E → Type 0) → Type 0
 NoSuchRefusal {E = E} IsSuch HasAnswer = (bytes : List ℕ) (e : E) → HasAnswer bytes (Err e) → IsSuch e → ⊥
 
-same_key : {P E : Type 0} (HasAnswer : List ℕ → Result P E → Type 0) → OneAnswer HasAnswer → (bytes : List ℕ) (p q : P) → HasAnswer bytes (Ok p) → HasAnswer bytes (Ok q) → p ≡ q
+same_key : {P E : Type 0} (HasAnswer : List ℕ → Result P E → Type 0) → OneAnswer HasAnswer →
+    (bytes : List ℕ) (p q : P) → HasAnswer bytes (Ok p) → HasAnswer bytes (Ok q) → p ≡ q
 same_key {P = P} {E = E} HasAnswer law bytes p q h k = let e : (let r : Result P E = Ok p in r) ≡ Ok q = law bytes (Ok p) (Ok q) h k in cc
 
-not_both : {P E : Type 0} (HasAnswer : List ℕ → Result P E → Type 0) → OneAnswer HasAnswer → (bytes : List ℕ) (p : P) (e : E) → HasAnswer bytes (Ok p) → HasAnswer bytes (Err e) → ⊥
+not_both : {P E : Type 0} (HasAnswer : List ℕ → Result P E → Type 0) → OneAnswer HasAnswer →
+    (bytes : List ℕ) (p : P) (e : E) → HasAnswer bytes (Ok p) → HasAnswer bytes (Err e) → ⊥
 not_both {P = P} {E = E} HasAnswer law bytes p f h k = let e : (let r : Result P E = Ok p in r) ≡ Err f = law bytes (Ok p) (Err f) h k in cc
 
-pub takes_some_one : {P Q E : Type 0} (take : P → Option Q) (refusal : E) (HasAnswer : List ℕ → Result P E → Type 0) → OneAnswer HasAnswer → OneAnswer (TakesSome take refusal HasAnswer)
+pub takes_some_one :
+    {P Q E : Type 0} (take : P → Option Q) (refusal : E) (HasAnswer : List ℕ → Result P E → Type 0) →
+    OneAnswer HasAnswer → OneAnswer (TakesSome take refusal HasAnswer)
 takes_some_one {Q = Q} {E = E} take refusal HasAnswer law bytes (Ok p) (Ok q) h k =
     let ok : Q → Result Q E = λ x. Ok x in
     ap ok (same_Some p q (sym h.is ∙ ap take (same_key HasAnswer law bytes h.key k.key h.answer k.answer) ∙ k.is))
@@ -52,6 +56,8 @@ takes_some_one take refusal HasAnswer law bytes (Err e) (Err f) (inl h) (inr k) 
 takes_some_one take refusal HasAnswer law bytes (Err e) (Err f) (inr h) (inl k) = absurd (not_both HasAnswer law bytes h.1.key f h.1.answer k)
 takes_some_one {Q = Q} {E = E} take refusal HasAnswer law bytes (Err e) (Err f) (inr h) (inr k) = let err : E → Result Q E = λ x. Err x in ap err (h.0 ∙ sym k.0)
 
-pub takes_some_no_file : {P Q E : Type 0} (take : P → Option Q) (refusal : E) (HasAnswer : List ℕ → Result P E → Type 0) (IsSuch : E → Type 0) → (IsSuch refusal → ⊥) → NoSuchRefusal IsSuch HasAnswer → NoSuchRefusal IsSuch (TakesSome take refusal HasAnswer)
+pub takes_some_no_file :
+    {P Q E : Type 0} (take : P → Option Q) (refusal : E) (HasAnswer : List ℕ → Result P E → Type 0) (IsSuch : E → Type 0) →
+    (IsSuch refusal → ⊥) → NoSuchRefusal IsSuch HasAnswer → NoSuchRefusal IsSuch (TakesSome take refusal HasAnswer)
 takes_some_no_file take refusal HasAnswer IsSuch other law bytes e (inl h) such = law bytes e h such
 takes_some_no_file take refusal HasAnswer IsSuch other law bytes e (inr h) such = other (subst IsSuch h.0 such)

@@ -1,4 +1,6 @@
-//! Subject public key info (RFC 5280, sections 4.1.1.2 and 4.1.2.7): algorithm identifiers, public keys and their documents, fingerprints, and the traits of types that are read from public key documents or written as such.
+//! Subject public key info (RFC 5280, sections 4.1.1.2 and 4.1.2.7): algorithm identifiers, public keys
+//! and their documents, fingerprints, and the traits of types that are read from public key documents
+//! or written as such.
 //!
 //! The fingerprint of an Ed25519 key, and of no other:
 //!

@@ -17,7 +17,9 @@ use der_small::{Any, BitString, Document, Encode};
 use identity_io::Disk;
 use std::alloc::Global;
 
-/// A type that is read from the document of a public key. A type of one algorithm's keys says by `TakesSome` which of the keys of `SubjectPublicKeyInfoOwned` it takes, and has its two laws by `takes_some_one` and `takes_some_no_file`.
+/// A type that is read from the document of a public key. A type of one algorithm's keys says by
+/// `TakesSome` which of the keys of `SubjectPublicKeyInfoOwned` it takes, and has its two laws by
+/// `takes_some_one` and `takes_some_no_file`.
 pub trait DecodePublicKey: Sized + Drop {
     // What contracts see of a key.
     ghost Plain: { Type 0 };
@@ -60,7 +62,9 @@ pub trait EncodePublicKey {
 
     ghost no_file: { (v : Self) (e : Refusal) → document v ≡ Err e → IsOfAFile e → ⊥ };
 
-    /// Writes the document of the key to a file. `StdDisk` makes a new file that all may read, as far as the mask of the process lets them, and leaves an old file its permissions. It empties an old file before it writes: after a fault the file may hold a first part of the document, or nothing.
+    /// Writes the document of the key to a file. `StdDisk` makes a new file that all may read, as far
+    /// as the mask of the process lets them, and leaves an old file its permissions. It empties an old
+    /// file before it writes: after a fault the file may hold a first part of the document, or nothing.
     final fn write_public_key_der_file<D: Disk>(
         &self,
         alloc: Global,

@@ -2,4 +2,5 @@ mod lending;
 mod parts;
 mod reading;
 mod refusals;
+mod rules;
 mod writing;

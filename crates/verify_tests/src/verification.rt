@@ -48,6 +48,31 @@ InvalidToken(JwtVerificationError { kind: Other }) <= signature= => signature=!
 InvalidToken(JwtVerificationError { kind: AudienceMismatch }) <= want=a => want=b
 InvalidToken(JwtVerificationError { kind: Expired }) <= \"exp\":1700000000 => \"exp\":1500000000";
 
+// The same for a key of RSA, and one row for each that a component of it can break.
+const RSA_BREAKS: &str = "InvalidVerificationTime <= now=1600000000000000000 => now=-1
+Token(InvalidJwtFormat) <= end= => end=.x
+InvalidJoseHeader(Shape) <= \"alg\" => \"x5c\":[],\"alg\"
+Token(InvalidJson(Syntax)) <= \"iat\":1600000000 => \"iat\":
+Token(InvalidSubject(WrongScheme)) <= \"sub\":\"spiffe => \"sub\":\"x
+InvalidNotBefore <= \"aud\":[\"a\"] => \"aud\":[\"a\"],\"nbf\":null
+BackendUnsupportedAlgorithm(ES512) <= \"RS256\" => \"ES512\"
+BundleNotFound example.org <= domain=example.org => domain=other.org
+AuthorityNotFound(\"k3\") <= {\"kid\":\"k1\" => {\"kid\":\"k3\"
+InvalidAuthorityMetadata(Alg) <= \"kty\": => \"alg\":7,\"kty\":
+InvalidAuthorityMetadata(Use) <= \"kty\": => \"use\":7,\"kty\":
+InvalidAuthorityMetadata(KeyOps) <= \"kty\": => \"key_ops\":7,\"kty\":
+InvalidAuthorityMetadata(Kty) <= \"RSA\" => \"OKP\"
+InvalidAuthorityMetadata(N) <= \"n\": => \"m\":
+InvalidAuthorityKeyComponent(N) <= w\" => _\"
+NonCanonicalRsaComponent(N) <= \"n\":\"_ => \"n\":\"AP
+InvalidAuthorityMetadata(E) <= \"e\": => \"f\":
+InvalidAuthorityKeyComponent(E) <= AQAB\" => AQAB=\"
+NonCanonicalRsaComponent(E) <= :\"AQAB => :\"AAAAAQAB
+WeakRsaAuthority(8) <= @w => w
+InvalidToken(JwtVerificationError { kind: Other }) <= signature= => signature=!
+InvalidToken(JwtVerificationError { kind: AudienceMismatch }) <= want=a => want=b
+InvalidToken(JwtVerificationError { kind: Expired }) <= \"exp\":1700000000 => \"exp\":1500000000";
+
 const ON_CURVE_ROWS: &str = "spiffe://example.org/a <= 
 spiffe://example.org/a <= \"iat\" => \"nbf\":1.6e9,\"iat\"
 spiffe://example.org/a <= \"iat\" => \"nbf\":-1,\"iat\"
@@ -258,17 +283,21 @@ fn rsa_keys(rt: HostRuntime) {
 }
 
 // Each rule broken alone, and before each later one.
-#[test]
-fn first_broken_rule(rt: HostRuntime) {
-    let alloc = rt.alloc();
-    check_rows(&rt, alloc, ON_CURVE, BREAKS);
-    for (i, row) in BREAKS.lines().enumerate() {
-        let (_, changes) = row.split_once(" <= ").expect(&rt, "an answer");
-        let later = changed(&rt, alloc, ON_CURVE, changes);
-        for (j, row) in BREAKS.lines().enumerate() {
+fn check_breaks(rt: &impl Abort, alloc: Global, case: &str, breaks: &str) {
+    check_rows(rt, alloc, case, breaks);
+    for (i, row) in breaks.lines().enumerate() {
+        let (_, changes) = row.split_once(" <= ").expect(rt, "an answer");
+        let later = changed(rt, alloc, case, changes);
+        for (j, row) in breaks.lines().enumerate() {
             if j < i {
-                check_rows(&rt, alloc, later.as_str(), row);
+                check_rows(rt, alloc, later.as_str(), row);
             }
         }
     }
+}
+
+#[test]
+fn first_broken_rule(rt: HostRuntime) {
+    check_breaks(&rt, rt.alloc(), ON_CURVE, BREAKS);
+    check_breaks(&rt, rt.alloc(), RSA, RSA_BREAKS);
 }
