@@ -4,4 +4,3 @@ pub mod Group
 pub mod Encoding
 pub mod Lanes
 pub mod Standard
-pub mod Crypt

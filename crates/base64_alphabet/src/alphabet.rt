@@ -6,7 +6,6 @@ ghost use Rattle.base64_alphabet.specs.Table.{place_of, is_table, all_in, IsPlac
 ghost use Rattle.base64_alphabet.specs.Passes.{decodes, value_fits, added_by, common_sign, encodes, turned_by, turned_fits};
 ghost use Rattle.base64_alphabet.specs.Group.{End, number, bytes_of_places, digits_of_number, bytes_of, answer_of, sextet, characters_of};
 
-pub mod shacrypt;
 pub mod standard;
 
 use crate::steps::Steps;

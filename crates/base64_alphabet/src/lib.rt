@@ -9,7 +9,6 @@ mod groups;
 pub mod lanes;
 mod steps;
 
-pub use crate::alphabet::shacrypt::Base64ShaCrypt;
 pub use crate::alphabet::standard::{Base64, Base64Unpadded};
 pub use crate::alphabet::{Alphabet, DecodeStep, EncodeStep, Unpad};
 pub use crate::blocks::{decode_blocks, encode_blocks};

@@ -1,13 +1,11 @@
-//! Further alphabets of Base64: the one safe in URLs, with padding and without, and those of bcrypt,
-//! `crypt` and PBKDF2. They stand apart from `base64_alphabet`, which has what an alphabet is.
+//! Further alphabets of Base64: the one safe in URLs, with padding and without, and those of bcrypt
+//! and PBKDF2. They stand apart from `base64_alphabet`, which has what an alphabet is.
 #![tactic(auto)]
 
 mod bcrypt;
-mod crypt;
 mod pbkdf2;
 mod url;
 
 pub use crate::bcrypt::Base64Bcrypt;
-pub use crate::crypt::Base64Crypt;
 pub use crate::pbkdf2::Base64Pbkdf2;
 pub use crate::url::{Base64Url, Base64UrlUnpadded};

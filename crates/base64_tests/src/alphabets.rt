@@ -2,10 +2,9 @@
 
 ghost use Rattle.std.specs.Prelude.{◌≡◌, ◌<◌};
 
-use base64_alphabet::{
-    Alphabet, Base64, Base64ShaCrypt, Base64Unpadded, DecodeStep, EncodeStep, Steps,
-};
-use base64_alphabets::{Base64Bcrypt, Base64Crypt, Base64Pbkdf2, Base64Url, Base64UrlUnpadded};
+use base64_alphabet::{Alphabet, Base64, Base64Unpadded, DecodeStep, EncodeStep, Steps};
+use base64_alphabets::{Base64Bcrypt, Base64Pbkdf2, Base64Url, Base64UrlUnpadded};
+use base64_crypt::{Base64Crypt, Base64ShaCrypt};
 use std::alloc::Global;
 use std::hash::Hash;
 use std::marker::Brand;

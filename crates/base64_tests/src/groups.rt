@@ -2,9 +2,8 @@
 
 ghost use Rattle.std.specs.Prelude.{◌≡◌, ◌<◌};
 
-use base64_alphabet::{
-    Alphabet, Base64, Base64ShaCrypt, Base64Unpadded, Steps, decode_blocks, encode_blocks,
-};
+use base64_alphabet::{Alphabet, Base64, Base64Unpadded, Steps, decode_blocks, encode_blocks};
+use base64_crypt::Base64ShaCrypt;
 use std::marker::Brand;
 use std::sync::ledger::{Blank, Ledger};
 

@@ -7,7 +7,7 @@ ghost use Rattle.base64ct.specs.Counts.{decode_count};
 
 use base64ct::{
     Alphabet, Base64, Base64Bcrypt, Base64Crypt, Base64Pbkdf2, Base64ShaCrypt, Base64Unpadded,
-    Base64Url, Base64UrlUnpadded, Encoding, Error, Steps, lanes,
+    Base64Url, Base64UrlUnpadded, Encoding, Error, InvalidEncodingError, Steps, lanes,
 };
 use std::alloc::Global;
 use std::marker::Brand;
@@ -64,7 +64,10 @@ fn refused_from<E: Encoding, L: Ledger>(text: &[u8; 128], blank: Blank) -> bool
 {
     let mut steps = Steps::<L>::new(blank);
     let mut out = [0u8; 96];
-    E::decode_counted(&text[..], &mut out, &mut steps) == Err(Error::InvalidEncoding)
+    let mut copy = *text;
+    let refused = E::decode_counted(&text[..], &mut out, &mut steps) == Err(Error::InvalidEncoding);
+    let in_place = E::decode_in_place_counted(&mut copy[..], &mut steps);
+    refused && in_place == Err(InvalidEncodingError)
 }
 
 fn refused<E: Encoding>(text: &[u8; 128]) -> bool {

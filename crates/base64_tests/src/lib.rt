@@ -1,4 +1,4 @@
-//! Tests of `base64_alphabet`, `base64_alphabets` and `base64ct`, over their public items alone.
+//! Tests of `base64_alphabet`, `base64_alphabets`, `base64_crypt` and `base64ct`, over their public items alone.
 #![tactic(auto)]
 
 #[cfg(test)]

@@ -31,6 +31,16 @@ bytes_of_blocks-append end table (p ∷ q ∷ r ∷ []) y whole = absurd (omega 
 bytes_of_blocks-append end table (p ∷ q ∷ r ∷ s ∷ x) y whole =
     ap (λ zs. bytes_of end table p q r s ++ zs) (bytes_of_blocks-append end table x y (omega arith)) ∙ sym (append_assoc (bytes_of end table p q r s) (bytes_of_blocks end table x) (bytes_of_blocks end table y))
 
+-- blocks behind others
+pub take_blocks_plus : (j k : ℕ) (chars : List ℕ) → take (4 * (j + k)) chars ≡ take (4 * j) chars ++ take (4 * k) (drop (4 * j) chars)
+take_blocks_plus j k chars = let e : 4 * (j + k) ≡ 4 * j + 4 * k = omega arith in rw e (take_plus (4 * j) (4 * k) chars)
+
+pub blocks_plus : (end : End) (table : List ℕ) (j k : ℕ) (chars : List ℕ) → 4 * j ≤ length chars
+    → bytes_of_blocks end table (take (4 * (j + k)) chars) ≡ bytes_of_blocks end table (take (4 * j) chars) ++ bytes_of_blocks end table (take (4 * k) (drop (4 * j) chars))
+blocks_plus end table j k chars fits =
+    let whole : length (take (4 * j) chars) ≡ 4 * j = length-take-le (4 * j) chars fits in
+    ap (bytes_of_blocks end table) (take_blocks_plus j k chars) ∙ bytes_of_blocks-append end table (take (4 * j) chars) (take (4 * k) (drop (4 * j) chars)) (omega arith)
+
 -- a block filled with `A`
 pub answer_zero : (p : Bool) (r : ℤ) → r ≡ (if p then pos 0 else pos 1) → nat_eq (of_z w16 r) 0 ≡ p
 answer_zero true r h = rw h refl
@@ -257,12 +267,6 @@ none_from_last end table src last padded q f at some is differs b bytes text =
     let h = halves end table padded src b q (omega arith) bytes text in
     let same = (is_text end table padded src b f bytes text).loose in
     differs (h.rest ∙ ap (λ xs. encoding_of end table padded xs) (ap (drop (3 * q)) (sym same) ∙ sym is))
-
--- a part of the front
-pub part_of : (xs : List ℕ) (a n : ℕ) → a + 4 ≤ n → take 4 (drop a xs) ≡ take 4 (drop a (take n xs))
-part_of xs a n le =
-    let e : a + (n - a) ≡ n = omega arith in
-    sym (take-take 4 (n - a) (drop a xs) (omega arith)) ∙ ap (take 4) (sym (drop-take a (n - a) xs) ∙ ap (λ m. drop a (take m xs)) e)
 
 -- what was written over the front
 pub written_front : (end : End) (table src dst new buf : List ℕ) (q k : ℕ) → 4 * q ≤ length src → 3 * q + k ≤ length dst

@@ -1,5 +1,5 @@
 -- Why whole texts are refused.
-use Rattle.std.proofs.Common.{◌≡◌, ℕ, ◌-◌, ◌*◌, ◌%◌, ◌<◌, ◌≤◌, Bool, true, false, List, [], ◌∷◌, length, arith, refl, ap, inl, inr}
+use Rattle.std.proofs.Common.{◌≡◌, ℕ, ◌%◌, ◌≤◌, Bool, true, false, List, [], ◌∷◌, length, arith, refl, ap, inl, inr}
 use Rattle.base64_alphabet.specs.Group.{End}
 use Rattle.base64_alphabet.specs.Encoding.{encoding_of}
 use Rattle.base64_text.specs.Canonical.{decoded_len, unpadded_len, IsDecodeError, IsDecodeVecError}

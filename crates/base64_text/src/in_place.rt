@@ -1,7 +1,7 @@
 //! Decoding of a text in its own buffer.
 #![tactic(auto)]
 
-ghost use Rattle.std.specs.Prelude.{◌≡◌, ℕ, ◌<◌, ◌≤◌, ◌+◌, ◌*◌, ◌/◌, ◌%◌, ◌↔◌, length, take, drop, true, IsSome, IfSome, if◌then◌else◌};
+ghost use Rattle.std.specs.Prelude.{◌≡◌, ℕ, ◌<◌, ◌≤◌, ◌+◌, ◌*◌, ◌/◌, ◌%◌, ◌++◌, ◌↔◌, length, take, drop, true, IsSome, IfSome, if◌then◌else◌};
 ghost use Rattle.base64_alphabet.specs.Encoding.{bytes_of_blocks};
 ghost use Rattle.base64_alphabet.specs.Table.{all_in};
 ghost use Rattle.base64_text.specs.Canonical.{unpadded_len, is_clean, loose_bytes, has_whole_blocks};
@@ -10,7 +10,7 @@ ghost use Rattle.base64_text.specs.Counts.{loose_count};
 use crate::decode_text;
 use crate::last_block::count_unpadded;
 use crate::loose::{decode_rest, is_padding};
-use base64_alphabet::{Alphabet, Steps};
+use base64_alphabet::{Alphabet, Steps, decode_blocks};
 use std::marker::Brand;
 use std::sync::ledger::{Blank, Ledger};
 
@@ -42,8 +42,8 @@ pub(crate) fn decode_over<E: Alphabet, L: Ledger>(
     }
 }
 
-// Decodes whole blocks to the front of their own buffer. Each goes through small arrays, since a block's
-// bytes may lie over its characters.
+// Decodes whole blocks to the front of their own buffer. Every block is converted in any case, so that the
+// number of conversions doesn't tell where a bad character stands.
 fn decode_blocks_over<E: Alphabet, L: Ledger>(
     buf: &mut [u8],
     blocks: usize,
@@ -57,15 +57,35 @@ fn decode_blocks_over<E: Alphabet, L: Ledger>(
     ensures steps { steps.new ≡ steps.old + 4 * blocks }
 {
     let mut good = true;
-    for block in 0..blocks {
-        let mut from = [0u8; 4];
-        from.copy_from_slice(&buf[4 * block..4 * block + 4]);
-        let mut to = [0u8; 3];
-        let answer = E::decode_3bytes_counted(&from, &mut to, steps);
-        buf[3 * block..3 * block + 3].copy_from_slice(&to);
-        good &= answer == 0;
+    let mut done = 0;
+    while done < blocks {
+        let count = (blocks - done).min(32);
+        good &= decode_part_over::<E, L>(buf, done, count, steps);
+        done += count;
     }
     good
+}
+
+// Decodes a few blocks behind the bytes of those before them. Their characters are copied out first, since
+// their bytes may lie over them.
+fn decode_part_over<E: Alphabet, L: Ledger>(
+    buf: &mut [u8],
+    done: usize,
+    count: usize,
+    steps: &mut Steps<L>,
+) -> bool
+    requires few { count ≤ 32 }
+    requires within { 4 * (done + count) ≤ length buf.old }
+    ensures answer { result ≡ all_in E.table (take (4 * count) (drop (4 * done) buf.old)) }
+    ensures written { result ≡ true → take (3 * (done + count)) buf.new
+        ≡ take (3 * done) buf.old ++ bytes_of_blocks E.end E.table (take (4 * count) (drop (4 * done) buf.old)) }
+    ensures rest { drop (4 * (done + count)) buf.new ≡ drop (4 * (done + count)) buf.old }
+    ensures steps { steps.new ≡ steps.old + 4 * count }
+{
+    let mut copy = [0u8; 128];
+    let characters = &mut copy[..4 * count];
+    characters.copy_from_slice(&buf[4 * done..4 * done + 4 * count]);
+    decode_blocks::<E, L>(characters, &mut buf[3 * done..3 * done + 3 * count], steps)
 }
 
 /// `decode_over` without a count.

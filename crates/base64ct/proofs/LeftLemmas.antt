@@ -6,7 +6,7 @@ use borrow.Rule.Slice.PartMut.{put_mid}
 use Rattle.base64_alphabet.specs.Table.{all_in}
 use Rattle.base64_alphabet.specs.Group.{End, bytes_of}
 use Rattle.base64_alphabet.specs.Encoding.{bytes_of_blocks}
-use Rattle.base64_text.proofs.LooseLemmas.{take_plus, bytes_of_blocks-append}
+use Rattle.base64_text.proofs.LooseLemmas.{take_plus, take_blocks_plus, blocks_plus}
 use Rattle.base64_text.proofs.WholeLemmas.{length-bytes_of_blocks}
 use Rattle.base64ct.specs.Items.{block_items}
 use Rattle.base64ct.proofs.ItemsLemmas.{map-append}
@@ -71,9 +71,6 @@ block_items-append end table (p ∷ q ∷ r ∷ []) y whole = absurd (omega arit
 block_items-append end table (p ∷ q ∷ r ∷ s ∷ x) y whole =
     let first : List (Option ℕ) = if all_in table (p ∷ q ∷ r ∷ s ∷ []) then map Some (bytes_of end table p q r s) else None ∷ None ∷ None ∷ [] in
     ap (λ zs. first ++ zs) (block_items-append end table x y (omega arith)) ∙ sym (append_assoc first (block_items end table x) (block_items end table y))
-
-pub take_blocks_plus : (j k : ℕ) (chars : List ℕ) → take (4 * (j + k)) chars ≡ take (4 * j) chars ++ take (4 * k) (drop (4 * j) chars)
-take_blocks_plus j k chars = let e : 4 * (j + k) ≡ 4 * j + 4 * k = omega arith in rw e (take_plus (4 * j) (4 * k) chars)
 
 split_blocks : (end : End) (table chars : List ℕ) (b k : ℕ) → k ≤ b → 4 * b ≤ length chars
     → block_items end table (take (4 * b) chars) ≡ block_items end table (take (4 * k) chars) ++ block_items end table (take (4 * (b - k)) (drop (4 * k) chars))
@@ -162,7 +159,6 @@ pub blocks_more : (end : End) (table chars out new : List ℕ) (done count n : �
     → take (3 * count) new ≡ bytes_of_blocks end table (take (4 * count) (drop (4 * done) chars))
     → take (3 * (done + count)) (put_mid (3 * done) (n - 3 * done) out new) ≡ bytes_of_blocks end table (take (4 * (done + count)) chars)
 blocks_more end table chars out new done count n fits len room was more =
-    let whole : length (take (4 * done) chars) ≡ 4 * done = length-take-le (4 * done) chars fits in
     let front : length (take (3 * done) out) ≡ 3 * done = length-take-le (3 * done) out room in
     let e : 3 * (done + count) ≡ 3 * done + 3 * count = omega arith in
     let put : put_mid (3 * done) (n - 3 * done) out new ≡ take (3 * done) out ++ new = ap (λ m. put_mid (3 * done) (m - 3 * done) out new) len ∙ put_back (3 * done) out new in
@@ -170,5 +166,4 @@ blocks_more end table chars out new done count n fits len room was more =
     ∙ ap (λ us. us ++ take (3 * count) (drop (3 * done) (take (3 * done) out ++ new))) (take_at (take (3 * done) out) new (3 * done) front)
     ∙ ap (λ us. take (3 * done) out ++ take (3 * count) us) (drop_at (take (3 * done) out) new (3 * done) front)
     ∙ ap (λ us. us ++ take (3 * count) new) was ∙ ap (λ us. bytes_of_blocks end table (take (4 * done) chars) ++ us) more
-    ∙ sym (bytes_of_blocks-append end table (take (4 * done) chars) (take (4 * count) (drop (4 * done) chars)) (omega arith))
-    ∙ ap (bytes_of_blocks end table) (sym (take_blocks_plus done count chars)))
+    ∙ sym (blocks_plus end table done count chars fits))

@@ -19,10 +19,11 @@ pub use crate::line_laws::{
 };
 pub use crate::wrapping::wrapped_len;
 pub use base64_alphabet::{
-    Alphabet, Base64, Base64ShaCrypt, Base64Unpadded, DecodeStep, EncodeStep, Steps, Unpad,
-    group_high, group_low, lanes, split_high, split_low,
+    Alphabet, Base64, Base64Unpadded, DecodeStep, EncodeStep, Steps, Unpad, group_high, group_low,
+    lanes, split_high, split_low,
 };
-pub use base64_alphabets::{Base64Bcrypt, Base64Crypt, Base64Pbkdf2, Base64Url, Base64UrlUnpadded};
+pub use base64_alphabets::{Base64Bcrypt, Base64Pbkdf2, Base64Url, Base64UrlUnpadded};
+pub use base64_crypt::{Base64Crypt, Base64ShaCrypt};
 pub use base64_text::{
     Encoding, Error, InvalidEncodingError, InvalidLengthError, unclean_texts_take_one_count,
 };

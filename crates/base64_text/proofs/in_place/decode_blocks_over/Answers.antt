@@ -1,52 +1,41 @@
-use Rattle.std.proofs.Common.{rules, ◌≡◌, ℕ, ◌≤◌, ◌+◌, ◌*◌, ◌-◌, ◌++◌, drop, take, length, List, [], ◌∷◌, arith, slice_range, refl, ap, sym, ◌∙◌, append-nil}
-use Rattle.std.proofs.lemmas.Grind.{common_steps}
-use Rattle.std.proofs.lemmas.List.{drop-drop, drop_all, length-take-le}
-use Rattle.std.proofs.lemmas.Slice.{drop-put_mid}
+use Rattle.std.proofs.Common.{◌≡◌, ℕ, ◌+◌, ◌*◌, ◌≤◌, Bool, ◌&&◌, List, take, drop, arith, refl, ap, sym, ◌∙◌, ◌++◌}
+use Rattle.std.proofs.lemmas.Bool.{and_parts}
+use Rattle.std.proofs.lemmas.List.{drop-drop}
 use Rattle.base64_alphabet.specs.Encoding.{bytes_of_blocks}
-use Rattle.base64_alphabet.proofs.BlocksLemmas.{answer_step, part_in, written_step, bytes_of_blocks-none}
-use Rattle.base64_text.proofs.LooseLemmas.{part_of}
+use Rattle.base64_alphabet.specs.Table.{all_in}
+use Rattle.base64_alphabet.proofs.BlocksLemmas.{all_in-append}
+use Rattle.base64_text.proofs.LooseLemmas.{take_blocks_plus, blocks_plus}
 use Rattle.base64_text.proofs.in_place.decode_blocks_over.Goals as goal
 
-pub slice_bounds-copy_from_slice-end-in-loop-block : goal.slice_bounds-copy_from_slice-end-in-loop-block
-slice_bounds-copy_from_slice-end-in-loop-block g c =
-    let len = c.loop-block.invariant.len in
-    let room = c.requires in
-    let k : 3 * c.loop-block.block + 3 ≤ length c.loop-block.buf = omega arith in
-    search rules
+pub loop-done-init : goal.loop-done-init
+unfolding bytes_of_blocks
+loop-done-init g c = record { few = omega arith; answer = refl; written = λ h. refl; rest = refl; steps = omega arith }
 
-pub loop-block-preserved : goal.loop-block-preserved
-loop-block-preserved g c =
-    let src : List ℕ = take (4 * c.args.blocks) c.args.buf.now in
-    let k : ℕ = c.loop-block.block in
-    let kept = c.loop-block.invariant.len in
-    let room = c.requires in
-    let long : length (take (4 * c.args.blocks) c.args.buf.now) ≡ 4 * c.args.blocks = length-take-le (4 * c.args.blocks) c.args.buf.now c.requires in
-    let cut : slice_range c.loop-block.buf (4 * c.loop-block.block) (4 * c.loop-block.block + 4) ≡ take 4 (drop (4 * c.loop-block.block) c.loop-block.buf) = grind (arith, common_steps) in
-    let is : c.copy_from_slice.new.self ≡ take 4 (drop (4 * c.loop-block.block) (take (4 * c.args.blocks) c.args.buf.now))
-    = c.copy_from_slice.ensures.after ∙ cut ∙ ap (take 4) c.loop-block.invariant.rest ∙ part_of c.args.buf.now (4 * c.loop-block.block) (4 * c.args.blocks) (omega arith) in
-    let three : length c.decode_3bytes_counted-answer.new.dst ≡ 3 = c.decode_3bytes_counted-answer.auto.dst in
-    let copied = c.copy_from_slice-in-loop-block.ensures.after in
-    let new_three : length c.copy_from_slice-in-loop-block.new.self ≡ 3 = ap length copied ∙ three in
+pub loop-done-preserved : goal.loop-done-preserved
+loop-done-preserved g c =
+    let src : List ℕ = c.args.buf.now in
+    let done : ℕ = c.loop-done.done in
+    let count : ℕ = c.min-count.result in
+    let inv = c.loop-done.invariant in
+    let part = c.decode_part_over-good.ensures in
+    let e : 4 * c.loop-done.done + 4 * c.min-count.result ≡ 4 * (c.loop-done.done + c.min-count.result) = omega arith in
+    let most : c.loop-done.done + c.min-count.result ≤ c.args.blocks = (let m = c.min-count.ensures in let t = c.loop-done-test.true in omega arith) in
+    let enough = c.requires in
+    let more : c.decode_part_over-good.result ≡ all_in g.E.Alphabet.table (take (4 * c.min-count.result) (drop (4 * c.loop-done.done) c.args.buf.now))
+    = part.answer ∙ ap (λ (us : List ℕ). all_in g.E.Alphabet.table (take (4 * c.min-count.result) us)) inv.rest in
+    let behind : drop (4 * (c.loop-done.done + c.min-count.result)) c.loop-done.buf ≡ drop (4 * (c.loop-done.done + c.min-count.result)) c.args.buf.now
+    = ap (λ (n : ℕ). drop n c.loop-done.buf) (sym e) ∙ sym (drop-drop (4 * c.min-count.result) (4 * c.loop-done.done) c.loop-done.buf) ∙ ap (drop (4 * c.min-count.result)) inv.rest
+    ∙ drop-drop (4 * c.min-count.result) (4 * c.loop-done.done) c.args.buf.now ∙ ap (λ (n : ℕ). drop n c.args.buf.now) e in
     record {
-      answer = answer_step g.E.Alphabet.table (take (4 * c.args.blocks) c.args.buf.now) c.copy_from_slice.new.self c.loop-block.good _ c.loop-block.block _ is c.loop-block.invariant.answer c.decode_3bytes_counted-answer.ensures.answer;
-      written = λ h. written_step g.E.Alphabet.end g.E.Alphabet.table (take (4 * c.args.blocks) c.args.buf.now) c.copy_from_slice.new.self c.loop-block.buf c.copy_from_slice-in-loop-block.new.self (0 ∷ 0 ∷ 0 ∷ []) c.loop-block.block is (omega arith) (omega arith)
-          new_three refl
-          (copied ∙ c.decode_3bytes_counted-answer.ensures.written (part_in g.E.Alphabet.table (take (4 * c.args.blocks) c.args.buf.now) c.copy_from_slice.new.self c.loop-block.good c.loop-block.block is (sym c.loop-block.invariant.answer ∙ h)))
-          _ (c.loop-block.invariant.written h);
-      len = search rules;
-      rest = (let e : 4 * c.loop-block.block + 4 ≡ 4 * (c.loop-block.block + 1) = omega arith in
-          drop-put_mid (3 * c.loop-block.block) (3 * c.loop-block.block + 3 - 3 * c.loop-block.block) c.loop-block.buf c.copy_from_slice-in-loop-block.new.self (4 * (c.loop-block.block + 1)) (omega arith) (omega arith) (omega arith)
-          ∙ ap (λ n. drop n c.loop-block.buf) (sym e) ∙ sym (drop-drop 4 (4 * c.loop-block.block) c.loop-block.buf) ∙ ap (drop 4) c.loop-block.invariant.rest
-          ∙ drop-drop 4 (4 * c.loop-block.block) c.args.buf.now ∙ ap (λ n. drop n c.args.buf.now) e);
-      steps = rw (c.decode_3bytes_counted-answer.ensures.steps, c.loop-block.invariant.steps) (omega arith);
+      few = most;
+      answer = ap (λ (b : Bool). b && c.decode_part_over-good.result) inv.answer
+          ∙ ap (λ (b : Bool). all_in g.E.Alphabet.table (take (4 * c.loop-done.done) c.args.buf.now) && b) more
+          ∙ sym (ap (all_in g.E.Alphabet.table) (take_blocks_plus c.loop-done.done c.min-count.result c.args.buf.now)
+          ∙ all_in-append g.E.Alphabet.table (take (4 * c.loop-done.done) c.args.buf.now) (take (4 * c.min-count.result) (drop (4 * c.loop-done.done) c.args.buf.now)));
+      written = λ h. (let parts = and_parts c.loop-done.good c.decode_part_over-good.result h in
+          part.written parts.1 ∙ ap (λ us. us ++ bytes_of_blocks g.E.Alphabet.end g.E.Alphabet.table (take (4 * c.min-count.result) (drop (4 * c.loop-done.done) c.loop-done.buf))) (inv.written parts.0)
+          ∙ ap (λ (us : List ℕ). bytes_of_blocks g.E.Alphabet.end g.E.Alphabet.table (take (4 * c.loop-done.done) c.args.buf.now) ++ bytes_of_blocks g.E.Alphabet.end g.E.Alphabet.table (take (4 * c.min-count.result) us)) inv.rest
+          ∙ sym (blocks_plus g.E.Alphabet.end g.E.Alphabet.table c.loop-done.done c.min-count.result c.args.buf.now (omega arith)));
+      rest = part.rest ∙ behind;
+      steps = (let s = part.steps in let t = inv.steps in omega arith);
     }
-
-pub returns-clause-written : goal.returns-clause-written
-returns-clause-written g c h =
-    let long : length (take (4 * c.args.blocks) c.args.buf.now) ≡ 4 * c.args.blocks = length-take-le (4 * c.args.blocks) c.args.buf.now c.requires in
-    let e : c.loop-block.block ≡ c.args.blocks = omega arith in
-    let none : drop (4 * c.loop-block.block) (take (4 * c.args.blocks) c.args.buf.now) ≡ [] = drop_all (4 * c.loop-block.block) (take (4 * c.args.blocks) c.args.buf.now) (omega arith) in
-    ap (λ n. take (3 * n) c.loop-block.buf) (sym e) ∙ sym (append-nil (take (3 * c.loop-block.block) c.loop-block.buf))
-    ∙ ap (λ xs. take (3 * c.loop-block.block) c.loop-block.buf ++ xs) (sym (bytes_of_blocks-none g.E.Alphabet.end g.E.Alphabet.table))
-    ∙ ap (λ xs. take (3 * c.loop-block.block) c.loop-block.buf ++ bytes_of_blocks g.E.Alphabet.end g.E.Alphabet.table xs) (sym none)
-    ∙ c.loop-block.invariant.written h

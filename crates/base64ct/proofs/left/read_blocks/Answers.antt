@@ -5,7 +5,8 @@ use Rattle.base64_alphabet.specs.Encoding.{bytes_of_blocks}
 use Rattle.base64_alphabet.specs.Table.{all_in}
 use Rattle.base64_alphabet.proofs.BlocksLemmas.{all_in-append}
 use Rattle.base64ct.specs.Walk.{characters_left}
-use Rattle.base64ct.proofs.LeftLemmas.{take_blocks_plus, blocks_more}
+use Rattle.base64_text.proofs.LooseLemmas.{take_blocks_plus}
+use Rattle.base64ct.proofs.LeftLemmas.{blocks_more}
 use Rattle.base64ct.proofs.left.read_blocks.Goals as goal
 
 pub loop-done-init : goal.loop-done-init
