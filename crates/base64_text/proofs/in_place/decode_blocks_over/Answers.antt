@@ -33,8 +33,10 @@ loop-done-preserved g c =
           ∙ sym (ap (all_in g.E.Alphabet.table) (take_blocks_plus c.loop-done.done c.min-count.result c.args.buf.now)
           ∙ all_in-append g.E.Alphabet.table (take (4 * c.loop-done.done) c.args.buf.now) (take (4 * c.min-count.result) (drop (4 * c.loop-done.done) c.args.buf.now)));
       written = λ h. (let parts = and_parts c.loop-done.good c.decode_part_over-good.result h in
-          part.written parts.1 ∙ ap (λ us. us ++ bytes_of_blocks g.E.Alphabet.end g.E.Alphabet.table (take (4 * c.min-count.result) (drop (4 * c.loop-done.done) c.loop-done.buf))) (inv.written parts.0)
-          ∙ ap (λ (us : List ℕ). bytes_of_blocks g.E.Alphabet.end g.E.Alphabet.table (take (4 * c.loop-done.done) c.args.buf.now) ++ bytes_of_blocks g.E.Alphabet.end g.E.Alphabet.table (take (4 * c.min-count.result) us)) inv.rest
+          part.written parts.1
+          ∙ ap (λ us. us ++ bytes_of_blocks g.E.Alphabet.end g.E.Alphabet.table (take (4 * c.min-count.result) (drop (4 * c.loop-done.done) c.loop-done.buf))) (inv.written parts.0)
+          ∙ ap (λ (us : List ℕ). bytes_of_blocks g.E.Alphabet.end g.E.Alphabet.table (take (4 * c.loop-done.done) c.args.buf.now)
+          ++ bytes_of_blocks g.E.Alphabet.end g.E.Alphabet.table (take (4 * c.min-count.result) us)) inv.rest
           ∙ sym (blocks_plus g.E.Alphabet.end g.E.Alphabet.table c.loop-done.done c.min-count.result c.args.buf.now (omega arith)));
       rest = part.rest ∙ behind;
       steps = (let s = part.steps in let t = inv.steps in omega arith);
