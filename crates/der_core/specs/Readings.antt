@@ -13,4 +13,3 @@ AreWritten {V = V} Reads encoding = (b : List ℕ) (v : V) → Reads b v → b �
 -- what is written of a value, in fewer than 2^32 bytes, is read as the value
 abbrev pub AreReadBack : {V : Type 0} → (List ℕ → V → Type 0) → (V → List ℕ) → Type 0
 AreReadBack {V = V} Reads encoding = (v : V) → length (encoding v) < 2 ^ 32 → Reads (encoding v) v
-
