@@ -1,40 +1,61 @@
--- The document of parts that are written.
-use Rattle.std.proofs.Common.{◌≡◌, ℕ, ◌+◌, ◌≤◌, List, ◌∷◌, ◌++◌, length, map, option_map, Option, Some, None, IfSome, sym, ap, subst, ◌∙◌, append_assoc, length-append, arith}
+-- The document around entries that were written.
+use Rattle.std.proofs.Common.{◌≡◌, ℕ, ◌+◌, ◌<◌, ◌≤◌, ◌^◌, List, [], ◌∷◌, ◌++◌, length, map, option_map, Option, Some, None, IfSome, refl, sym, ap, subst, ◌∙◌, append-nil, length-append, arith}
+use Rattle.std.specs.Prelude.{string_bytes}
 use Rattle.std.proofs.lemmas.List.Folds.{flat_map-map}
 use Rattle.std.specs.List.{flat_map}
-use Rattle.der_core.specs.Der.{encode, length_bytes}
+use Rattle.der_core.specs.Any.{PlainAny, der_of, plain_ref}
+use Rattle.der_core.specs.Der.{encode}
 use Rattle.der_core.specs.Laws.{length_encode}
-use Rattle.der_core.specs.ValueLaws.{encode_parts}
+use Rattle.der_core.specs.declared.any.AnyRef.{AnyRef}
 use Rattle.der_small.specs.Utf8.{text_ref}
 use Rattle.der_small.specs.declared.utf8.Utf8Ref.{Utf8Ref}
-use Rattle.update_document.specs.Spelling.{bundle_der, entry_der, fields_written, reason_der}
-use Rattle.identity_update.specs.Assembled.{assembled}
+use Rattle.update_document.specs.Spelling.{bundle_der, document_der, entry_der, fields_behind, fields_written, reason_der}
+use Rattle.update_document.specs.Written.{WrittenUpdate}
+use Rattle.identity_update.specs.Assembled.{assembled, document_of}
 use Rattle.identity_update.specs.Bundle.{plain_bundle}
 use Rattle.identity_update.specs.Canonical.{canonical_bundle, canonical_entry, update_der}
 use Rattle.identity_update.specs.Checked.{checked_entry}
-use Rattle.identity_update.specs.Places.{BeginsAt, Ends}
+use Rattle.identity_update.specs.Kept.{AreKept, IsKeptUpdate, IsReason, kept_entry, kept_update}
+use Rattle.identity_update.specs.KeptEntries.{entries_der, entries_of}
+use Rattle.identity_update.specs.Lawful.{IsLawful}
+use Rattle.identity_update.specs.LawfulParts.{AreLawfulParts, update_of}
+use Rattle.identity_update.specs.Parts.{Entry, UpdateParts}
+use Rattle.identity_update.specs.Place.{FoundAt, part}
+use Rattle.identity_update.specs.Places.{Ends}
+use Rattle.identity_update.specs.declared.assembly.LawfulParts.{LawfulParts}
 use Rattle.identity_update.specs.declared.bundle.BundleParts.{BundleParts}
 use Rattle.identity_update.specs.declared.entry.CheckedEntry.{CheckedEntry}
-use Rattle.identity_update.proofs.Ends.{ends_second, ends_self, ends_value}
-
-abbrev pub entries_der : List CheckedEntry → List ℕ
-entries_der entries = flat_map (λ e. entry_der (canonical_entry (checked_entry e))) entries
+use Rattle.identity_update.specs.declared.place.Place.{Place}
+use Rattle.identity_update.proofs.Ends.{ends_first, ends_second, ends_self, ends_value, found_at}
 
 abbrev pub bundles_der : List BundleParts → List ℕ
-bundles_der bundles = flat_map (λ b. bundle_der (canonical_bundle (plain_bundle b))) bundles
+bundles_der bundles = flat_map bundle_der (map canonical_bundle (map plain_bundle bundles))
 
-abbrev pub written_content : List CheckedEntry → List BundleParts → Option Utf8Ref → List ℕ
-written_content entries bundles reason = fields_written (entries_der entries) (bundles_der bundles) (option_map text_ref reason)
+abbrev pub behind : List BundleParts → Option Utf8Ref → List ℕ
+behind bundles reason = fields_behind (bundles_der bundles) (option_map text_ref reason)
 
--- the one document of the parts is what is written of them
-pub assembled_der : (entries : List CheckedEntry) (bundles : List BundleParts) (reason : Option Utf8Ref) → update_der (assembled entries bundles reason) ≡ encode 48 (written_content entries bundles reason)
+abbrev bundles_read : List BundleParts → List ℕ
+bundles_read bundles = flat_map (λ b. bundle_der (canonical_bundle (plain_bundle b))) bundles
+
+bundles_are : (bundles : List BundleParts) → bundles_der bundles ≡ bundles_read bundles
+bundles_are bundles = flat_map-map bundle_der canonical_bundle (map plain_bundle bundles) ∙ flat_map-map (λ b. bundle_der (canonical_bundle b)) plain_bundle bundles
+
+-- the one document of parts is what is written of them
+pub assembled_der : (entries : List CheckedEntry) (bundles : List BundleParts) (reason : Option Utf8Ref) → update_der (assembled entries bundles reason) ≡ encode 48 (encode 48 (flat_map (λ e. entry_der (canonical_entry (checked_entry e))) entries) ++ fields_behind (flat_map (λ b. bundle_der (canonical_bundle (plain_bundle b))) bundles) (option_map text_ref reason))
 assembled_der entries bundles reason =
-    let es : flat_map entry_der (map canonical_entry (map checked_entry entries)) ≡ entries_der entries =
+    let es : entries_der (map checked_entry entries) ≡ flat_map (λ e. entry_der (canonical_entry (checked_entry e))) entries =
     flat_map-map entry_der canonical_entry (map checked_entry entries) ∙ flat_map-map (λ e. entry_der (canonical_entry e)) checked_entry entries in
-    let bs : flat_map bundle_der (map canonical_bundle (map plain_bundle bundles)) ≡ bundles_der bundles =
-    flat_map-map bundle_der canonical_bundle (map plain_bundle bundles) ∙ flat_map-map (λ b. bundle_der (canonical_bundle b)) plain_bundle bundles in
-    ap (λ (x : List ℕ). encode 48 (fields_written x (flat_map bundle_der (map canonical_bundle (map plain_bundle bundles))) (option_map text_ref reason))) es
-    ∙ ap (λ (x : List ℕ). encode 48 (fields_written (entries_der entries) x (option_map text_ref reason))) bs
+    ap (λ (x : List ℕ). encode 48 (fields_written x (bundles_der bundles) (option_map text_ref reason))) es
+    ∙ ap (λ (x : List ℕ). encode 48 (fields_written (flat_map (λ e. entry_der (canonical_entry (checked_entry e))) entries) x (option_map text_ref reason))) (bundles_are bundles)
+
+-- the fields of a document around a list that was written before
+pub around : (list : AnyRef) (written : List ℕ) (bundles : List BundleParts) (reason : Option Utf8Ref) → plain_ref list ≡ record { tag = 48; content = written } → encode list.tag.byte list.value.now ++ fields_behind (flat_map (λ b. bundle_der (canonical_bundle (plain_bundle b))) bundles) (option_map text_ref reason) ≡ encode 48 written ++ behind bundles reason
+around list written bundles reason is =
+    ap (λ (v : PlainAny). der_of v ++ fields_behind (bundles_read bundles) (option_map text_ref reason)) is
+    ∙ ap (λ (x : List ℕ). encode 48 written ++ fields_behind x (option_map text_ref reason)) (sym (bundles_are bundles))
+
+pub list_is : (list : AnyRef) (written : List ℕ) → plain_ref list ≡ record { tag = 48; content = written } → encode list.tag.byte list.value.now ≡ encode 48 written
+list_is list written is = ap der_of is
 
 pub record Sizes (document entries content : List ℕ) : Type 0 where
   pub listed : length entries ≤ length (encode 48 entries)
@@ -48,23 +69,18 @@ sizes document entries behind is =
     let all = ap length is ∙ length_encode 48 (encode 48 entries ++ behind) in
     record { listed = omega arith; list = omega arith; whole = omega arith }
 
--- where the first list of a document begins
-pub list_begins : (document entries behind : List ℕ) (start : ℕ) → document ≡ encode 48 (encode 48 entries ++ behind) → start + length (encode 48 entries ++ behind) + length entries ≡ length document + length (encode 48 entries) → BeginsAt document entries start
-list_begins document entries behind start is sum =
-    let content : List ℕ = encode 48 entries ++ behind in
-    let outer : List ℕ = 48 ∷ length_bytes (length content) in
-    let inner : List ℕ = 48 ∷ length_bytes (length entries) in
-    let listed : content ≡ inner ++ (entries ++ behind) = ap (λ (x : List ℕ). x ++ behind) (encode_parts 48 entries) ∙ append_assoc inner entries behind in
-    let whole : document ≡ outer ++ (inner ++ (entries ++ behind)) = is ∙ encode_parts 48 content ∙ ap (λ (x : List ℕ). outer ++ x) listed in
-    let size = ap length (is ∙ encode_parts 48 content) ∙ length-append outer content in
-    let list_size = ap length (encode_parts 48 entries) ∙ length-append inner entries in
-    let front = length-append outer inner in
-    record {
-      pre = outer ++ inner;
-      post = behind;
-      is = whole ∙ sym (append_assoc outer inner (entries ++ behind));
-      at = omega arith;
-    }
+-- what is written of the entries is no longer than the document
+pub entries_shorter : (w : WrittenUpdate) → length (flat_map entry_der w.entries) ≤ length (document_der w)
+entries_shorter w =
+    let s = sizes (document_der w) (flat_map entry_der w.entries) (fields_behind (flat_map bundle_der w.bundles) w.reason) refl in
+    omega (arith, s)
+
+-- where the entries of a document stand
+pub entries_found : (document entries behind : List ℕ) (p : Place) → document ≡ encode 48 (encode 48 entries ++ behind) → p.end + length behind ≡ length document → p.start + length entries ≡ p.end → FoundAt document p entries
+entries_found document entries behind p is after before =
+    let listed = ends_first entries (encode 48 entries) behind (ends_value 48 entries entries (ends_self entries)) in
+    let ends : Ends (entries ++ behind) document = subst (Ends (entries ++ behind)) (sym is) (ends_value 48 (entries ++ behind) (encode 48 entries ++ behind) listed) in
+    found_at document [] document [] entries behind (length document) p (sym (append-nil document)) (omega arith) ends after before
 
 reason_field_ends : (reason : Option Utf8Ref) → IfSome (option_map text_ref reason) (λ text. Ends text (reason_der (option_map text_ref reason)))
 reason_field_ends None = tt
@@ -75,10 +91,42 @@ ends_in document None in_document = tt
 ends_in document (Some text) in_document = in_document (text_ref text) (reason_field_ends (Some text))
 
 -- the reason ends the document
-pub reason_ends : (document : List ℕ) (entries : List CheckedEntry) (bundles : List BundleParts) (reason : Option Utf8Ref) → document ≡ update_der (assembled entries bundles reason) → IfSome (option_map text_ref reason) (λ text. Ends text document)
-reason_ends document entries bundles reason is =
-    let first : List ℕ = encode 48 (entries_der entries) in
+pub reason_ends : (document written : List ℕ) (bundles : List BundleParts) (reason : Option Utf8Ref) → document ≡ document_of written bundles reason → IfSome (option_map text_ref reason) (λ text. Ends text document)
+reason_ends document written bundles reason is =
+    let first : List ℕ = encode 48 written in
     let second : List ℕ = encode 48 (bundles_der bundles) in
     let field : List ℕ = reason_der (option_map text_ref reason) in
     ends_in document reason
-    (λ tail e. subst (Ends tail) (sym (is ∙ assembled_der entries bundles reason)) (ends_value 48 tail (first ++ (second ++ field)) (ends_second first tail (second ++ field) (ends_second second tail field e))))
+    (λ tail e. subst (Ends tail) (sym is) (ends_value 48 tail (first ++ (second ++ field)) (ends_second first tail (second ++ field) (ends_second second tail field e))))
+
+-- what is written of lawful parts is the one document of their update
+pub document_is : (p : LawfulParts) (reason : Option Utf8Ref) → AreLawfulParts p → option_map text_ref reason ≡ option_map string_bytes p.reason → document_of p.entries.written.items p.bundles.parts.items reason ≡ update_der (update_of p)
+document_is p reason h is =
+    let bs : List ℕ = bundles_der p.bundles.parts.items in
+    ap (λ (s : List ℕ). encode 48 (fields_written s bs (option_map text_ref reason))) h.entries.are
+    ∙ ap (λ (r : Option (List ℕ)). encode 48 (fields_written (entries_der (entries_of p.entries)) bs r)) is
+
+pub document_fits : (p : LawfulParts) (reason : Option Utf8Ref) → AreLawfulParts p → option_map text_ref reason ≡ option_map string_bytes p.reason → length (document_of p.entries.written.items p.bundles.parts.items reason) < 2 ^ 32
+document_fits p reason h is = subst (λ (d : List ℕ). length d < 2 ^ 32) (sym (document_is p reason h is)) h.fits
+
+-- the update that is kept is that of the parts
+pub kept_is : (p : LawfulParts) (document : List ℕ) (at : Place) (r : Option Place) → FoundAt document at p.entries.written.items → option_map (part document) r ≡ option_map string_bytes p.reason → kept_update document at p.entries.entries.items p.bundles.parts.items r ≡ update_of p
+kept_is p document at r found is =
+    let of : List Entry → Option (List ℕ) → UpdateParts = λ es reason. record { entries = es; bundles = map plain_bundle p.bundles.parts.items; reason = reason } in
+    ap (λ (w : List ℕ). of (map (kept_entry w) p.entries.entries.items) (option_map (part document) r)) found.is
+    ∙ ap (of (entries_of p.entries)) is
+
+pub is_kept : (p : LawfulParts) (document : List ℕ) (at : Place) (reason : Option Utf8Ref) (r : Option Place) → AreLawfulParts p → option_map text_ref reason ≡ option_map string_bytes p.reason → document ≡ document_of p.entries.written.items p.bundles.parts.items reason → FoundAt document at p.entries.written.items → option_map (part document) r ≡ option_map text_ref reason → IfSome r (IsReason document)
+    → IsKeptUpdate document at p.entries.entries.items p.bundles.parts.items p.bundles.set r
+is_kept p document at reason r h lent is found seen within =
+    let same = kept_is p document at r found (seen ∙ lent) in
+    let whole : document ≡ update_der (update_of p) = is ∙ document_is p reason h lent in
+    record {
+      within = found.within;
+      entries = subst (λ (w : List ℕ). AreKept w p.entries.entries.items) (sym found.is) h.entries.kept;
+      reason = within;
+      small = subst (λ (d : List ℕ). length d < 2 ^ 32) (sym whole) h.fits;
+      document_is = whole ∙ ap update_der (sym same);
+      set_is = h.set;
+      lawful = subst IsLawful (sym same) h.lawful;
+    }

@@ -175,12 +175,12 @@ canonical_reads document kept bundles reason are_kept ids domains is_reason fits
     }
 
 -- the document that is kept is read as what the update writes
-pub kept_reads : (document : List ℕ) (es : List KeptEntry) (bs : List BundleParts) (set : Bundles) (r : Option Place) → IsKeptUpdate document es bs set r → ReadsUpdate document (canonical (kept_update document es bs r))
-kept_reads document es bs set r kept =
-    let u : UpdateParts = kept_update document es bs r in
+pub kept_reads : (document : List ℕ) (at : Place) (es : List KeptEntry) (bs : List BundleParts) (set : Bundles) (r : Option Place) → IsKeptUpdate document at es bs set r → ReadsUpdate document (canonical (kept_update document at es bs r))
+kept_reads document at es bs set r kept =
+    let u : UpdateParts = kept_update document at es bs r in
     let fits = subst (λ (x : List ℕ). length x < 2 ^ 32) kept.document_is kept.small in
     subst (λ (x : List ℕ). ReadsUpdate x (canonical u)) (sym kept.document_is)
-    (canonical_reads document es u.bundles u.reason kept.entries kept.lawful.ids kept.lawful.domains kept.lawful.reason fits)
+    (canonical_reads (part document at) es u.bundles u.reason kept.entries kept.lawful.ids kept.lawful.domains kept.lawful.reason fits)
 
 -- one document is that of one update
 pub one_document : (a b : UpdateParts) (first second : List ℕ) → first ≡ update_der a → second ≡ update_der b → ReadsUpdate first (canonical a) → ReadsUpdate second (canonical b) → verdict (canonical a) ≡ Ok a → verdict (canonical b) ≡ Ok b → update_der a ≡ update_der b → a ≡ b

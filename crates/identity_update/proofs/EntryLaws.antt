@@ -1,32 +1,130 @@
--- One more entry.
-use Rattle.std.proofs.Common.{◌≡◌, ℕ, ◌+◌, List, [], ◌∷◌, ◌++◌, length, map, Result, Ok, sym, ap, ◌∙◌, inl, inr, length-append}
+-- The rules of entries, tried in turn while entries are written.
+use Rattle.std.proofs.Common.{◌≡◌, ℕ, ◌+◌, ◌<◌, ◌^◌, List, [], ◌∷◌, ◌++◌, length, map, Result, Ok, Err, refl, sym, ap, subst, ◌∙◌, inl, inr, append_assoc, append-nil, length-append, arith}
+use Rattle.std.proofs.lemmas.List.{reverse-append}
+use Rattle.std.specs.List.{flat_map}
+use Rattle.std.specs.Prelude.{reverse}
 use Rattle.spiffe_id.specs.Rules.{map_ok, then_ok}
 use Rattle.update_document.specs.Refs.{EntryRef, written_entry}
-use Rattle.identity_update.specs.Checked.{checked_entry}
+use Rattle.update_document.specs.Spelling.{entry_der}
+use Rattle.update_document.specs.Written.{WrittenEntry}
+use Rattle.identity_update.specs.Canonical.{canonical_entry}
+use Rattle.identity_update.specs.Kept.{IsKept, kept_entry}
+use Rattle.identity_update.specs.KeptEntries.{AreWritten, entries_der}
 use Rattle.identity_update.specs.Parts.{Entry}
-use Rattle.identity_update.specs.Verdict.{IsRefusal, entries_check, entry_check}
-use Rattle.identity_update.specs.declared.entry.CheckedEntry.{CheckedEntry}
+use Rattle.identity_update.specs.PartsVerdict.{pairs_check}
+use Rattle.identity_update.specs.Verdict.{IsRefusal, entries_check, entry_check, keys_check}
 use Rattle.identity_update.specs.declared.error.UpdateError.{UpdateError}
-use Rattle.identity_update.proofs.Results.{one_more}
+use Rattle.identity_update.specs.declared.kept.KeptEntry.{KeptEntry}
+use Rattle.identity_update.proofs.KeptLaws.{no_entries, pushed}
+use Rattle.identity_update.proofs.VerdictLaws.{entry_fits_in}
 
--- what the rules say of all entries, where they hold of the first ones
-abbrev pub FromHere : List CheckedEntry → List EntryRef → Result (List Entry) UpdateError → Type 0
-FromHere checked left all = map_ok (λ more. map checked_entry checked ++ more) (entries_check (length checked) (map written_entry left)) ≡ all
+abbrev with_others : List Entry → Result (List Entry) UpdateError → Result (List Entry) UpdateError
+with_others old r = map_ok (λ more. old ++ more) r
 
-abbrev with_others : List CheckedEntry → List EntryRef → Result Entry UpdateError → Result (List Entry) UpdateError
-with_others old rest r = map_ok (λ more. map checked_entry old ++ more) (then_ok r (λ first. map_ok (λ more. first ∷ more) (entries_check (length old + 1) (map written_entry rest))))
+with_none : (r : Result (List Entry) UpdateError) → with_others [] r ≡ r
+with_none (Ok more) = refl
+with_none (Err e) = refl
 
-pub entries_more : (left rest : List EntryRef) (entry : EntryRef) (old new : List CheckedEntry) (checked : CheckedEntry) (n : ℕ) (all : Result (List Entry) UpdateError) → n ≡ length old → left ≡ entry ∷ rest → entry_check n (written_entry entry) ≡ Ok (checked_entry checked) → new ≡ old ++ checked ∷ [] → FromHere old left all → FromHere new rest all
-entries_more left rest entry old new checked n all at steps ok pushed so =
-    let here = ap (λ x. map_ok (λ more. map checked_entry old ++ more) (entries_check (length old) (map written_entry x))) steps in
-    let read = ap (λ (k : ℕ). with_others old rest (entry_check k (written_entry entry))) (sym at) ∙ ap (with_others old rest) ok in
-    let number : length new ≡ length old + 1 = ap length pushed ∙ length-append old (checked ∷ []) in
-    ap (λ (n : ℕ). map_ok (λ more. map checked_entry new ++ more) (entries_check n (map written_entry rest))) number
-    ∙ one_more checked_entry old new checked (entries_check (length old + 1) (map written_entry rest)) pushed
-    ∙ sym read ∙ sym here ∙ so
+with_one : (old : List Entry) (v : Entry) (r : Result (List Entry) UpdateError) → with_others (old ++ v ∷ []) r ≡ with_others old (map_ok (λ more. v ∷ more) r)
+with_one old v (Ok more) =
+    let ok : List Entry → Result (List Entry) UpdateError = λ vs. Ok vs in
+    ap ok (append_assoc old (v ∷ []) more)
+with_one old v (Err e) = refl
 
-pub entry_refused : (left rest : List EntryRef) (entry : EntryRef) (old : List CheckedEntry) (n : ℕ) (all : Result (List Entry) UpdateError) (e : UpdateError) → n ≡ length old → left ≡ entry ∷ rest → IsRefusal (entry_check n (written_entry entry)) e → FromHere old left all → IsRefusal all e
-entry_refused left rest entry old n all e at steps (inl is) so =
-    let here = ap (λ x. map_ok (λ more. map checked_entry old ++ more) (entries_check (length old) (map written_entry x))) steps in
-    inl (sym so ∙ here ∙ ap (λ (k : ℕ). with_others old rest (entry_check k (written_entry entry))) (sym at) ∙ ap (with_others old rest) is)
-entry_refused left rest entry old n all e at steps (inr memory) so = inr memory
+-- the entries that were written, what the rules say of the others, and room for these
+pub record EntriesSoFar (written : List ℕ) (kept : List KeptEntry) (left : List WrittenEntry) (all : Result (List Entry) UpdateError) : Type 0 where
+  pub are : AreWritten written kept
+  pub so : map_ok (λ more. map (kept_entry written) kept ++ more) (entries_check (length kept) left) ≡ all
+  pub fits : length written + length (flat_map entry_der left) < 2 ^ 32
+
+pub before_entries : (all : List WrittenEntry) → length (flat_map entry_der all) < 2 ^ 32 → EntriesSoFar [] [] all (entries_check 0 all)
+before_entries all fits = record { are = no_entries; so = with_none (entries_check 0 all); fits = omega arith }
+
+pub entry_has_room : (written : List ℕ) (kept : List KeptEntry) (first : WrittenEntry) (rest : List WrittenEntry) (all : Result (List Entry) UpdateError) (n : ℕ) (v : Entry) → EntriesSoFar written kept (first ∷ rest) all → entry_check n first ≡ Ok v → length written + length (entry_der (canonical_entry v)) < 2 ^ 32
+entry_has_room written kept first rest all n v h ok =
+    let fits = h.fits in
+    let sum = length-append (entry_der first) (flat_map entry_der rest) in
+    let shorter = entry_fits_in n first v ok in
+    omega arith
+
+then_first : List Entry → List WrittenEntry → ℕ → Result Entry UpdateError → Result (List Entry) UpdateError
+then_first old rest n r = with_others old (then_ok r (λ v. map_ok (λ more. v ∷ more) (entries_check (n + 1) rest)))
+
+pub entry_after : (written : List ℕ) (kept : List KeptEntry) (first : WrittenEntry) (rest : List WrittenEntry) (all : Result (List Entry) UpdateError) (n : ℕ) (v : Entry) (e : KeptEntry) (new : List ℕ) (fs : List KeptEntry) → EntriesSoFar written kept (first ∷ rest) all → n ≡ length kept → entry_check n first ≡ Ok v → new ≡ written ++ entry_der (canonical_entry v) → fs ≡ kept ++ e ∷ [] → kept_entry new e ≡ v → IsKept new e → EntriesSoFar new fs rest all
+unfolding then_first
+entry_after written kept first rest all n v e new fs h at ok is push same one =
+    let old : List Entry = map (kept_entry written) kept in
+    let p = pushed written kept v e new fs h.are is push same one in
+    let checked : entry_check (length kept) first ≡ Ok v = ap (λ (k : ℕ). entry_check k first) (sym at) ∙ ok in
+    let fits = h.fits in
+    let sum = length-append (entry_der first) (flat_map entry_der rest) in
+    let shorter = entry_fits_in n first v ok in
+    let long = ap length is ∙ length-append written (entry_der (canonical_entry v)) in
+    record {
+      are = p.written;
+      so =
+          ap (λ (vs : List Entry). with_others vs (entries_check (length fs) rest)) p.entries
+          ∙ ap (λ (k : ℕ). with_others (old ++ v ∷ []) (entries_check k rest)) p.count
+          ∙ with_one old v (entries_check (length kept + 1) rest)
+          ∙ sym (ap (then_first old rest (length kept)) checked)
+          ∙ h.so;
+      fits = omega arith;
+    }
+
+pub entry_refused : (written : List ℕ) (kept : List KeptEntry) (first : WrittenEntry) (rest : List WrittenEntry) (all : Result (List Entry) UpdateError) (n : ℕ) (e : UpdateError) → EntriesSoFar written kept (first ∷ rest) all → n ≡ length kept → IsRefusal (entry_check n first) e → IsRefusal all e
+unfolding then_first
+entry_refused written kept first rest all n e h at (inl is) =
+    inl (sym h.so ∙ ap (then_first (map (kept_entry written) kept) rest (length kept)) (ap (λ (k : ℕ). entry_check k first) (sym at) ∙ is))
+entry_refused written kept first rest all n e h at (inr memory) = inr memory
+
+pub after_entries : (written : List ℕ) (kept : List KeptEntry) (all : Result (List Entry) UpdateError) → EntriesSoFar written kept [] all → all ≡ Ok (map (kept_entry written) kept)
+after_entries written kept all h =
+    let ok : List Entry → Result (List Entry) UpdateError = λ vs. Ok vs in
+    sym h.so ∙ ap ok (append-nil (map (kept_entry written) kept))
+
+-- the last of a reversed list is the next one
+pub popped : (old new : List EntryRef) (entry : EntryRef) → old ≡ new ++ entry ∷ [] → map written_entry (reverse old) ≡ written_entry entry ∷ map written_entry (reverse new)
+popped old new entry is = ap (λ (es : List EntryRef). map written_entry (reverse es)) is ∙ ap (map written_entry) (reverse-append new (entry ∷ []))
+
+-- the same of entries that have only the rules of keys
+pub record PairsSoFar (written : List ℕ) (kept : List KeptEntry) (left all : List Entry) : Type 0 where
+  pub are : AreWritten written kept
+  pub pairs : pairs_check (length kept) left ≡ pairs_check 0 all
+  pub entries : map (kept_entry written) kept ++ left ≡ all
+  pub fits : length written + length (entries_der left) < 2 ^ 32
+
+pub before_pairs : (all : List Entry) → length (entries_der all) < 2 ^ 32 → PairsSoFar [] [] all all
+before_pairs all fits = record { are = no_entries; pairs = refl; entries = refl; fits = omega arith }
+
+pub pair_has_room : (written : List ℕ) (kept : List KeptEntry) (first : Entry) (rest all : List Entry) → PairsSoFar written kept (first ∷ rest) all → length written + length (entry_der (canonical_entry first)) < 2 ^ 32
+pair_has_room written kept first rest all h =
+    let fits = h.fits in
+    let sum = length-append (entry_der (canonical_entry first)) (entries_der rest) in
+    omega arith
+
+then_pairs : List Entry → ℕ → Result (Unit {0}) UpdateError → Result (Unit {0}) UpdateError
+then_pairs rest n r = then_ok r (λ _. pairs_check (n + 1) rest)
+
+pub pair_after : (written : List ℕ) (kept : List KeptEntry) (first : Entry) (rest all : List Entry) (n : ℕ) (e : KeptEntry) (new : List ℕ) (fs : List KeptEntry) → PairsSoFar written kept (first ∷ rest) all → n ≡ length kept → keys_check n first.private_key first.public_key ≡ Ok tt → new ≡ written ++ entry_der (canonical_entry first) → fs ≡ kept ++ e ∷ [] → kept_entry new e ≡ first → IsKept new e → PairsSoFar new fs rest all
+unfolding then_pairs
+pair_after written kept first rest all n e new fs h at ok is push same one =
+    let old : List Entry = map (kept_entry written) kept in
+    let p = pushed written kept first e new fs h.are is push same one in
+    let checked : keys_check (length kept) first.private_key first.public_key ≡ Ok tt = ap (λ (k : ℕ). keys_check k first.private_key first.public_key) (sym at) ∙ ok in
+    let fits = h.fits in
+    let sum = length-append (entry_der (canonical_entry first)) (entries_der rest) in
+    let long = ap length is ∙ length-append written (entry_der (canonical_entry first)) in
+    record {
+      are = p.written;
+      pairs = ap (λ (k : ℕ). pairs_check k rest) p.count ∙ sym (ap (then_pairs rest (length kept)) checked) ∙ h.pairs;
+      entries = ap (λ (vs : List Entry). vs ++ rest) p.entries ∙ append_assoc old (first ∷ []) rest ∙ h.entries;
+      fits = omega arith;
+    }
+
+pub pair_refused : (written : List ℕ) (kept : List KeptEntry) (first : Entry) (rest all : List Entry) (n : ℕ) (e : UpdateError) → PairsSoFar written kept (first ∷ rest) all → n ≡ length kept → keys_check n first.private_key first.public_key ≡ Err e → pairs_check 0 all ≡ Err e
+unfolding then_pairs
+pair_refused written kept first rest all n e h at broken =
+    sym h.pairs ∙ ap (then_pairs rest (length kept)) (ap (λ (k : ℕ). keys_check k first.private_key first.public_key) (sym at) ∙ broken)
+
+pub after_pairs : (written : List ℕ) (kept : List KeptEntry) (all : List Entry) → PairsSoFar written kept [] all → map (kept_entry written) kept ≡ all
+after_pairs written kept all h = sym (append-nil (map (kept_entry written) kept)) ∙ h.entries

@@ -1,6 +1,7 @@
 pub mod Ends
 pub mod PlacesLaws
 pub mod Results
+pub mod KeptLaws
 pub mod EntryLaws
 pub mod BundleLaws
 pub mod TextLaws

@@ -15,16 +15,14 @@ use Rattle.spki.specs.PlainAlgorithm.{PlainAlgorithm}
 use Rattle.spki.specs.PlainPublicKey.{PlainPublicKey}
 use Rattle.pkcs8.specs.PlainPrivateKey.{PlainPrivateKey}
 use Rattle.std.specs.Prelude.{is_some, if◌then◌else◌, Bool, true, false}
-use Rattle.std.proofs.Common.{map}
-use Rattle.std.proofs.lemmas.List.{map-append}
-use Rattle.identity_update.specs.Kept.{AreKept, IsKept, kept_algorithm, kept_bits, kept_entry}
+use Rattle.identity_update.specs.Kept.{kept_algorithm, kept_bits, kept_entry}
 use Rattle.identity_update.specs.declared.kept.KeptEntry.{KeptEntry}
 use Rattle.identity_update.specs.Parts.{Entry}
 use Rattle.identity_update.specs.Place.{FoundAt, part}
 use Rattle.update_document.specs.Spelling as spelling
 use Rattle.identity_update.specs.Canonical.{canonical_entry}
 use Rattle.identity_update.specs.Lawful.{HasOneKey}
-use Rattle.identity_update.specs.Places.{BeginsAt, Ends, StandsAt, attributes_field, behind_attributes, behind_octets, held_field}
+use Rattle.identity_update.specs.Places.{Ends, StandsAt, attributes_field, behind_attributes, behind_octets, held_field}
 use Rattle.identity_update.specs.declared.place.Place.{Place}
 use Rattle.identity_update.proofs.Ends.{ends_self, ends_cons, ends_value, ends_first, ends_second, found_at}
 
@@ -162,39 +160,6 @@ pub some_map : {X Y : Type 0} (f : X → Y) (o : Option X) → is_some o ≡ is_
 some_map f None = refl
 some_map f (Some x) = refl
 
-pub record AfterFirst (document bytes more : List ℕ) (start : ℕ) : Type 0 where
-  pub stands : StandsAt document bytes (start + length bytes)
-  pub begins : BeginsAt document more (start + length bytes)
-  pub within : start + length bytes ≤ length document
-
--- the first of several encodings, and where the others begin
-pub after_first : (document bytes more : List ℕ) (start : ℕ) → BeginsAt document (bytes ++ more) start → AfterFirst document bytes more start
-after_first document bytes more start b =
-    let inner : document ≡ b.pre ++ (bytes ++ (more ++ b.post)) = b.is ∙ ap (λ (x : List ℕ). b.pre ++ x) (append_assoc bytes more b.post) in
-    let at = b.at in
-    let front : length (b.pre ++ bytes) ≡ length b.pre + length bytes = length-append b.pre bytes in
-    let outer : document ≡ (b.pre ++ bytes) ++ (more ++ b.post) = inner ∙ sym (append_assoc b.pre bytes (more ++ b.post)) in
-    let all : length document ≡ length (b.pre ++ bytes) + length (more ++ b.post) = ap length outer ∙ length-append (b.pre ++ bytes) (more ++ b.post) in
-    record {
-      stands = record { pre = b.pre; post = more ++ b.post; is = inner; at = omega arith };
-      begins = record { pre = b.pre ++ bytes; post = b.post; is = outer; at = omega arith };
-      within = omega arith;
-    }
-
--- one more is kept
-pub value_more : {A B C : Type 0} (f : A → C) (g : B → C) (old new : List A) (left rest : List B) (a : A) (b : B) (all : List C) → map f old ++ map g left ≡ all → left ≡ b ∷ rest → new ≡ old ++ a ∷ [] → f a ≡ g b → map f new ++ map g rest ≡ all
-value_more {C = C} f g old new left rest a b all so steps pushed same =
-    ap (λ x. map f x ++ map g rest) pushed
-    ∙ ap (λ x. x ++ map g rest) (map-append f old (a ∷ []))
-    ∙ append_assoc (map f old) (f a ∷ []) (map g rest)
-    ∙ ap (λ y. map f old ++ (y ∷ map g rest)) same
-    ∙ ap (λ x. map f old ++ map g x) (sym steps)
-    ∙ so
-
 -- the public key of an entry that stands in a document is not too long
 pub public_key_fits : (document : List ℕ) (e : Entry) (end : ℕ) → StandsAt document (entry_der e) end → length document < 2 ^ 32 → length (public_key_der e.public_key) < 2 ^ 32
 public_key_fits document e end stands small = tail_fits document (entry_der e) (public_key_der e.public_key) end stands (public_end e) small
-
-pub kept_more : (document : List ℕ) (ks : List KeptEntry) (k : KeptEntry) → AreKept document ks → IsKept document k → AreKept document (ks ++ k ∷ [])
-kept_more document [] k are one = (one, tt)
-kept_more document (x ∷ ks) k are one = (are.0, kept_more document ks k are.1 one)

@@ -122,6 +122,9 @@ entries_fit (e ∷ es) (v ∷ vs) (an_entry _ _ _ _ h more) =
     let sum' = length-append (entry_der e) (flat_map entry_der es) in
     omega arith
 
+pub entry_fits_in : (n : ℕ) (e : WrittenEntry) (v : Entry) → entry_check n e ≡ Ok v → length (entry_der (canonical_entry v)) ≤ length (entry_der e)
+entry_fits_in n e v is = entry_fits e v (entry_holds n e v is)
+
 bundle_fits : (b : WrittenBundle) (v : Bundle) → BundleHolds b v → length (bundle_der (canonical_bundle v)) ≤ length (bundle_der b)
 bundle_fits b v h =
     let text = encode_le 12 v.trust_domain b.text (domain_fits b.text v.trust_domain h.domain) in
@@ -176,6 +179,9 @@ keys_are_one n v is =
       algorithm = (algorithms_decide v.private_key.algorithm v.public_key.algorithm).0 algorithm.test;
       held = held_same v.private_key.public_key v.public_key.key held.test;
     }
+
+pub entry_has_one_key : (n : ℕ) (e : WrittenEntry) (v : Entry) → entry_check n e ≡ Ok v → HasOneKey v
+entry_has_one_key n e v is = let h = entry_holds n e v is in keys_are_one h.n v h.keys
 
 one_keys : (es : List WrittenEntry) (vs : List Entry) → EntriesHold es vs → AllByRecursion HasOneKey vs
 one_keys [] [] no_entries = tt

@@ -63,15 +63,16 @@ pub record IsReason (document : List ℕ) (p : Place) : Type 0 where
   pub within : IsWithin document p
   pub utf8 : IsUtf8 (part document p)
 
--- the update that is kept
-abbrev pub kept_update : List ℕ → List KeptEntry → List BundleParts → Option Place → UpdateParts
-kept_update document es bs r = record { entries = map (kept_entry document) es; bundles = map plain_bundle bs; reason = option_map (part document) r }
+-- the update that is kept, whose entries stand at a place of the document
+abbrev pub kept_update : List ℕ → Place → List KeptEntry → List BundleParts → Option Place → UpdateParts
+kept_update document at es bs r = record { entries = map (kept_entry (part document at)) es; bundles = map plain_bundle bs; reason = option_map (part document) r }
 
 -- the document is the one of the kept update, which is lawful and not too long, and the set is that of its bundles
-pub record IsKeptUpdate (document : List ℕ) (es : List KeptEntry) (bs : List BundleParts) (set : Bundles) (r : Option Place) : Type 0 where
-  pub entries : AreKept document es
+pub record IsKeptUpdate (document : List ℕ) (at : Place) (es : List KeptEntry) (bs : List BundleParts) (set : Bundles) (r : Option Place) : Type 0 where
+  pub within : IsWithin document at
+  pub entries : AreKept (part document at) es
   pub reason : IfSome r (IsReason document)
   pub small : length document < 2 ^ 32
-  pub document_is : document ≡ update_der (kept_update document es bs r)
+  pub document_is : document ≡ update_der (kept_update document at es bs r)
   pub set_is : set ≡ bundle_map (map plain_bundle bs)
-  pub lawful : IsLawful (kept_update document es bs r)
+  pub lawful : IsLawful (kept_update document at es bs r)

@@ -16,3 +16,5 @@ pub mod Kept
 pub mod Checked
 pub mod Places
 pub mod Assembled
+pub mod KeptEntries
+pub mod LawfulParts

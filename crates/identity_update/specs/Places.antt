@@ -13,13 +13,6 @@ pub record StandsAt (document bytes : List ℕ) (end : ℕ) : Type 0 where
   pub is : document ≡ pre ++ (bytes ++ post)
   pub at : length pre + length bytes ≡ end
 
--- the bytes stand in the document and begin at this place
-pub record BeginsAt (document bytes : List ℕ) (start : ℕ) : Type 0 where
-  pub pre : List ℕ
-  pub post : List ℕ
-  pub is : document ≡ pre ++ (bytes ++ post)
-  pub at : length pre ≡ start
-
 -- the tail is the last of the whole
 pub record Ends (tail whole : List ℕ) : Type 0 where
   pub front : List ℕ

@@ -1,77 +1,128 @@
-//! Making an update of parts that break no rule: its document is written, and the places of its parts are kept.
-ghost use Rattle.std.specs.Prelude.{◌≡◌, ◌<◌, ◌^◌, List, ℕ, length, map, option_map, IfOk, IfErr, IfSome};
+//! Making an update of parts that break no rule: its document is written around its entries.
+ghost use Rattle.std.specs.Prelude.{◌≡◌, ◌++◌, ◌<◌, ◌^◌, length, map, option_map, string_bytes, IfOk, IfErr, IfSome};
 ghost use Rattle.std.specs.List.{flat_map};
+ghost use Rattle.der_core.specs.Any.{plain_ref};
+ghost use Rattle.der_core.specs.Der.{encode};
 ghost use Rattle.der_small.specs.Utf8.{text_ref};
-ghost use Rattle.update_document.specs.Spelling.{entry_der};
-ghost use Rattle.identity_update.specs.Assembled.{assembled};
-ghost use Rattle.identity_update.specs.Bundle.{plain_bundle};
-ghost use Rattle.identity_update.specs.BundleMap.{bundle_map};
-ghost use Rattle.identity_update.specs.Canonical.{canonical_entry, update_der};
-ghost use Rattle.identity_update.specs.Checked.{checked_entry};
+ghost use Rattle.update_document.specs.Document.{IsReasonText};
+ghost use Rattle.update_document.specs.Spelling.{bundle_der, fields_written};
+ghost use Rattle.identity_update.specs.Assembled.{document_of};
 ghost use Rattle.identity_update.specs.Kept.{IsReason};
-ghost use Rattle.identity_update.specs.Lawful.{IsLawful};
-ghost use Rattle.identity_update.specs.Place.{part};
-ghost use Rattle.identity_update.specs.Places.{BeginsAt, Ends};
+ghost use Rattle.identity_update.specs.LawfulParts.{AreLawfulParts, update_of};
+ghost use Rattle.identity_update.specs.Place.{FoundAt, part};
+ghost use Rattle.identity_update.specs.Places.{Ends};
 
 use crate::bundle::BundleParts;
 use crate::bundle_rules::CheckedBundles;
-use crate::entry::CheckedEntry;
+use crate::document_writer::DocumentWriter;
 use crate::error::UpdateError;
+use crate::kept::KeptEntries;
 use crate::place::Place;
-use crate::places::{before, keep_all, len_of};
+use crate::places::{before, len_of};
 use crate::update::Update;
-use der_core::{Encode, EncodeValue};
-use der_lists::SequenceOf;
+use der_core::{AnyRef, Encode, EncodeValue, Tag};
 use der_small::Utf8Ref;
 use std::alloc::Global;
 use update_document::WrittenDocument;
 
-// The document of the parts.
-fn written(
+/// Parts that break no rule, before their document is written.
+#[derive(Drop)]
+pub(crate) struct LawfulParts {
+    pub(crate) entries: KeptEntries,
+    pub(crate) bundles: CheckedBundles,
+    pub(crate) reason: Option<String>,
+}
+
+/// The reason in memory of its own.
+pub(crate) fn own_reason(
     alloc: Global,
-    entries: &[CheckedEntry<'_>],
-    bundles: &[BundleParts],
-    reason: Option<Utf8Ref<'_>>,
-) -> Result<Vec<u8>, UpdateError>
-    requires { length (update_der (assembled entries.now bundles.now reason)) < 2 ^ 32 }
-    ensures value { IfOk result (λ document. document.items ≡ update_der (assembled entries.now bundles.now reason.entry)) }
+    reason: &Option<Utf8Ref<'_>>,
+) -> Result<Option<String>, UpdateError>
+    ensures ok { IfOk result (λ own. option_map string_bytes own ≡ option_map text_ref reason.now) }
     ensures memory { IfErr result (λ e. e ≡ UpdateError.OutOfMemory) }
 {
-    let document = WrittenDocument {
-        entries,
-        bundles,
-        reason,
-    };
-    match document.to_der(alloc) {
-        Ok(bytes) => Ok(bytes),
-        Err(_) => Err(UpdateError::OutOfMemory),
+    match reason {
+        None => Ok(None),
+        Some(text) => Ok(Some(String::from_str(alloc, text.as_str())?)),
     }
 }
 
-// Where the encodings of the entries begin in the document.
-fn entries_at(
-    document: &[u8],
-    entries: &[CheckedEntry<'_>],
+fn lent_reason(reason: &Option<String>) -> Option<Utf8Ref<'_>>
+    requires { IfSome (option_map string_bytes reason.now) IsReasonText }
+    ensures { option_map text_ref result ≡ option_map string_bytes reason.now }
+{
+    match reason {
+        None => None,
+        Some(own) => {
+            let Ok(text) = Utf8Ref::new(own.as_str()) else {
+                unreachable!()
+            };
+            Some(text)
+        }
+    }
+}
+
+// The list whose entries were written before.
+fn list_of(written: &[u8]) -> AnyRef<'_>
+    requires { length written.now < 2 ^ 32 }
+    ensures { plain_ref result ≡ record { tag = 48; content = written.now } }
+{
+    let Ok(list) = AnyRef::new(Tag::from_valid(Tag::SEQUENCE), written) else {
+        unreachable!()
+    };
+    list
+}
+
+// The document of these entries, bundles and reason, in the room of a vector whose bytes are let go.
+fn write_document(
+    room: Vec<u8>,
+    written: &[u8],
     bundles: &[BundleParts],
     reason: Option<Utf8Ref<'_>>,
-) -> u32
-    requires is { document.now ≡ update_der (assembled entries.now bundles.now reason) }
-    requires small { length document.now < 2 ^ 32 }
-    ensures { BeginsAt document.now (flat_map (λ e. entry_der (canonical_entry (checked_entry e))) entries.now) result }
+) -> Result<Vec<u8>, UpdateError>
+    requires { length (document_of written.now bundles.now reason) < 2 ^ 32 }
+    ensures value { IfOk result (λ document. document.items ≡ document_of written.now bundles.now reason.entry) }
+    ensures memory { IfErr result (λ e. e ≡ UpdateError.OutOfMemory) }
 {
-    let written = WrittenDocument {
-        entries,
+    let mut bytes = room;
+    bytes.clear();
+    let mut writer = DocumentWriter { bytes, refusals: 0 };
+    let document = WrittenDocument {
+        entries: &list_of(written),
         bundles,
         reason,
     };
-    let Ok(content) = written.value_len() else {
+    let Ok(()) = document.encode(&mut writer) else {
+        return Err(UpdateError::OutOfMemory);
+    };
+    Ok(writer.bytes)
+}
+
+// Where the encodings of the entries stand in the document.
+fn entries_at(
+    document: &[u8],
+    written: &[u8],
+    bundles: &[BundleParts],
+    reason: Option<Utf8Ref<'_>>,
+) -> Place
+    requires is { document.now ≡ document_of written.now bundles.now reason }
+    requires small { length document.now < 2 ^ 32 }
+    ensures { FoundAt document.now result written.now }
+{
+    let list = list_of(written);
+    let fields = WrittenDocument {
+        entries: &list,
+        bundles,
+        reason,
+    };
+    let Ok(content) = fields.value_len() else {
         unreachable!()
     };
-    let Ok(listed) = SequenceOf(entries).value_len() else {
-        unreachable!()
-    };
-    let list = len_of(&SequenceOf(entries));
-    document.len() as u32 - content.get() + (list - listed.get())
+    before(
+        document.len() as u32,
+        content.get() - len_of(&list),
+        written.len(),
+    )
 }
 
 // Where the reason stands in the document.
@@ -87,28 +138,28 @@ fn reason_at(document: &[u8], reason: &Option<Utf8Ref<'_>>) -> Option<Place>
     }
 }
 
-/// The update of parts that break no rule.
-pub(crate) fn assemble(
-    alloc: Global,
-    entries: Vec<CheckedEntry<'_>>,
-    bundles: CheckedBundles,
-    reason: Option<Utf8Ref<'_>>,
-) -> Result<Update, UpdateError>
-    requires set { bundles.set ≡ bundle_map (map plain_bundle bundles.parts.items) }
-    requires lawful { IsLawful (assembled entries.items bundles.parts.items reason) }
-    requires fits { length (update_der (assembled entries.items bundles.parts.items reason)) < 2 ^ 32 }
-    ensures value { IfOk result (λ u. u ≡ assembled entries.entry.items bundles.parts.items reason.entry) }
+/// The update of parts that break no rule. Its document is written in the room of a vector whose bytes are let go.
+pub(crate) fn assemble(parts: LawfulParts, room: Vec<u8>) -> Result<Update, UpdateError>
+    requires { AreLawfulParts parts }
+    ensures value { IfOk result (λ u. u ≡ update_of parts) }
     ensures memory { IfErr result (λ e. e ≡ UpdateError.OutOfMemory) }
 {
-    let CheckedBundles { parts, set } = bundles;
-    let document = written(alloc, &entries, &parts, reason)?;
-    let start = entries_at(&document, &entries, &parts, reason);
+    let LawfulParts {
+        entries: kept,
+        bundles,
+        reason: own,
+    } = parts;
+    let KeptEntries { written, entries } = kept;
+    let CheckedBundles { parts: listed, set } = bundles;
+    let reason = lent_reason(&own);
+    let document = write_document(room, &written, &listed, reason)?;
+    let identities = entries_at(&document, &written, &listed, reason);
     let reason = reason_at(&document, &reason);
-    let entries = keep_all(alloc, &document, start, entries)?;
     Ok(Update {
         document,
+        identities,
         entries,
-        bundles: parts,
+        bundles: listed,
         set,
         reason,
     })

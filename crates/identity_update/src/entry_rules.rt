@@ -1,5 +1,6 @@
 //! The rules of entries.
-ghost use Rattle.std.specs.Prelude.{◌≡◌, ◌⊎◌, ℕ, List, [], Ok, map, option_map, IfOk, IfErr};
+ghost use Rattle.std.specs.Prelude.{◌≡◌, ◌⊎◌, ◌<◌, ◌^◌, Ok, length, map, option_map, vec_len, IfOk, IfErr, OnOk};
+ghost use Rattle.std.specs.List.{flat_map};
 ghost use Rattle.der_core.specs.Any.{plain_ref};
 ghost use Rattle.der_small.specs.BitString.{plain_bits_ref};
 ghost use Rattle.der_small.specs.Utf8.{text_ref};
@@ -8,14 +9,19 @@ ghost use Rattle.spki.specs.PlainAlgorithm.{plain_algorithm};
 ghost use Rattle.spki.specs.PlainPublicKey.{plain_public_key_ref};
 ghost use Rattle.pkcs8.specs.PlainPrivateKey.{plain_private_key_ref};
 ghost use Rattle.update_document.specs.Refs.{written_entry};
+ghost use Rattle.update_document.specs.Spelling.{entry_der};
 ghost use Rattle.identity_update.specs.Checked.{checked_entry};
+ghost use Rattle.identity_update.specs.KeptEntries.{AreKeptEntries, entries_der, entries_of};
 ghost use Rattle.identity_update.specs.PartsVerdict.{pairs_check};
 ghost use Rattle.spki.specs.Same.{same_algorithm as same_algorithm_of, same_bits as same_bits_of};
 ghost use Rattle.identity_update.specs.Verdict.{IsRefusal, map_refusal, purpose_check, holds_no_other as holds_no_other_of, keys_check, entry_check, entries_check};
 ghost use Rattle.identity_update.specs.declared.error.UpdateError.TheVariants.{Subject};
 
+use crate::document_writer::DocumentWriter;
 use crate::entry::CheckedEntry;
 use crate::error::UpdateError;
+use crate::kept::KeptEntries;
+use crate::places::append;
 use der_small::{BitStringRef, Utf8Ref};
 use pkcs8::PrivateKeyInfoRef;
 use spiffe_id::{SpiffeId, SpiffeIdError};
@@ -105,29 +111,69 @@ fn check_entry<'a>(
     })
 }
 
-/// Tries the rules of each entry in turn.
-pub(crate) fn check_entries<'a>(
-    alloc: Global,
-    entries: Vec<EntryRef<'a>>,
-) -> Result<Vec<CheckedEntry<'a>>, UpdateError>
-    ensures ok { IfOk result (λ checked. entries_check 0 (map written_entry entries.entry.items) ≡ Ok (map checked_entry checked.items)) }
-    ensures err { IfErr result (IsRefusal (entries_check 0 (map written_entry entries.entry.items))) }
+// Gives back the room of entries that were taken from the end, now and then.
+fn give_back(left: &mut Vec<EntryRef<'_>>)
+    ensures items { left.new.items ≡ left.old.items }
+    ensures len { vec_len left.new ≡ vec_len left.old }
 {
-    let mut checked = Vec::with_capacity(alloc, entries.len())?;
-    for entry in entries {
-        let number = checked.len();
-        let first = check_entry(alloc, number, entry)?;
-        checked.push(first)?;
+    if left.len() % 1024 == 0 {
+        left.shrink_to_fit();
     }
-    Ok(checked)
 }
 
-/// Tries the rules of the keys of each entry in turn.
-pub(crate) fn check_pairs(entries: &[CheckedEntry<'_>]) -> Result<(), UpdateError>
-    ensures { result ≡ pairs_check 0 (map checked_entry entries.now) }
+/// Tries the rules of each entry in turn, and writes it into a vector of so much room. The room of entries that were read is given back on the way: they are larger than what is kept of them.
+pub(crate) fn check_entries(
+    alloc: Global,
+    entries: Vec<EntryRef<'_>>,
+    room: usize,
+) -> Result<KeptEntries, UpdateError>
+    requires fits { length (flat_map entry_der (map written_entry entries.items)) < 2 ^ 32 }
+    ensures ok { IfOk result (λ kept. entries_check 0 (map written_entry entries.entry.items) ≡ Ok (entries_of kept)) }
+    ensures kept { IfOk result AreKeptEntries }
+    ensures err { IfErr result (IsRefusal (entries_check 0 (map written_entry entries.entry.items))) }
 {
-    for (number, entry) in entries.iter().enumerate() {
-        check_keys(number, &entry.private_key, &entry.public_key)?;
+    let mut kept = Vec::with_capacity(alloc, entries.len())?;
+    let mut writer = DocumentWriter {
+        bytes: Vec::with_capacity(alloc, room)?,
+        refusals: 0,
+    };
+    let mut left = entries;
+    left.reverse();
+    while let Some(entry) = left.pop() {
+        give_back(&mut left);
+        let checked = check_entry(alloc, kept.len(), entry)?;
+        let one = append(&mut writer, checked)?;
+        kept.push(one)?;
     }
-    Ok(())
+    Ok(KeptEntries {
+        written: writer.bytes,
+        entries: kept,
+    })
+}
+
+/// Tries the rules of the keys of each entry in turn, and writes it.
+pub(crate) fn check_pairs(
+    alloc: Global,
+    entries: Vec<CheckedEntry<'_>>,
+) -> Result<KeptEntries, UpdateError>
+    requires fits { length (entries_der (map checked_entry entries.items)) < 2 ^ 32 }
+    ensures ok { OnOk result (pairs_check 0 (map checked_entry entries.entry.items) ≡ Ok tt) }
+    ensures value { IfOk result (λ kept. entries_of kept ≡ map checked_entry entries.entry.items) }
+    ensures kept { IfOk result AreKeptEntries }
+    ensures err { IfErr result (IsRefusal (pairs_check 0 (map checked_entry entries.entry.items))) }
+{
+    let mut kept = Vec::with_capacity(alloc, entries.len())?;
+    let mut writer = DocumentWriter {
+        bytes: Vec::new(alloc),
+        refusals: 0,
+    };
+    for entry in entries {
+        check_keys(kept.len(), &entry.private_key, &entry.public_key)?;
+        let one = append(&mut writer, entry)?;
+        kept.push(one)?;
+    }
+    Ok(KeptEntries {
+        written: writer.bytes,
+        entries: kept,
+    })
 }

@@ -1,4 +1,4 @@
-//! What is kept of an entry beside the document.
+//! What is kept of entries beside their encodings.
 use crate::place::Place;
 use der_core::{ObjectIdentifier, Tag};
 use spiffe_id::SpiffeId;
@@ -21,4 +21,11 @@ pub(crate) struct KeptEntry {
     pub(crate) holds_public_key: bool,
     pub(crate) unused_bits: u8,
     pub(crate) bits: Place,
+}
+
+/// Entries that break no rule of their own: what the document has of them, one behind the other, and where their parts stand in it.
+#[derive(Drop)]
+pub(crate) struct KeptEntries {
+    pub(crate) written: Vec<u8>,
+    pub(crate) entries: Vec<KeptEntry>,
 }

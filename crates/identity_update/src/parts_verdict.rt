@@ -9,7 +9,7 @@ ghost use Rattle.identity_update.specs.Lawful.{HasCanonicalId};
 ghost use Rattle.identity_update.specs.PartsVerdict.{fits_check, parts_verdict, reason_check};
 ghost use Rattle.identity_update.specs.Verdict.{IsRefusal};
 
-use crate::assembly::assemble;
+use crate::assembly::{LawfulParts, assemble, own_reason};
 use crate::bundle::BundleParts;
 use crate::bundle_rules::{CheckedBundles, check_key_sets};
 use crate::entry::CheckedEntry;
@@ -18,6 +18,7 @@ use crate::error::UpdateError;
 use crate::members::check_members;
 use crate::update::Update;
 use der_core::Encode;
+use der_lists::SequenceOf;
 use der_small::Utf8Ref;
 use std::alloc::Global;
 use update_document::WrittenDocument;
@@ -45,8 +46,9 @@ fn check_fits(
 ) -> Result<(), UpdateError>
     ensures { result ≡ fits_check (assembled entries.now bundles.now reason.entry) }
 {
+    let list = SequenceOf(entries);
     let document = WrittenDocument {
-        entries,
+        entries: &list,
         bundles,
         reason,
     };
@@ -71,9 +73,17 @@ pub(crate) fn judge_parts(
 {
     check_fits(&entries, &bundles, reason)?;
     check_purpose(&entries, &reason)?;
-    check_pairs(&entries)?;
+    let entries = check_pairs(alloc, entries)?;
     let set = check_key_sets(alloc, &bundles)?;
-    check_members(&set, &entries)?;
-    let parts = bundles;
-    assemble(alloc, entries, CheckedBundles { parts, set }, reason)
+    check_members(&set, &entries.entries)?;
+    let reason = own_reason(alloc, &reason)?;
+    let parts = LawfulParts {
+        entries,
+        bundles: CheckedBundles {
+            parts: bundles,
+            set,
+        },
+        reason,
+    };
+    assemble(parts, Vec::new(alloc))
 }

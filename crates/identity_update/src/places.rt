@@ -1,23 +1,23 @@
-//! Finding where the parts of entries stand in a document that was written from them.
-ghost use Rattle.std.specs.Prelude.{◌≡◌, ◌+◌, ◌<◌, ◌≤◌, ◌^◌, ℕ, List, length, map, option_map, IfOk, IfSome};
-ghost use Rattle.std.specs.List.{AllByRecursion, flat_map};
+//! Writing entries, and finding where their parts stand in what was written.
+ghost use Rattle.std.specs.Prelude.{◌≡◌, ◌+◌, ◌++◌, ◌<◌, ◌≤◌, ◌^◌, length, option_map, IfOk, IfErr, IfSome, OnOk};
 ghost use Rattle.der_small.specs.BitString.{plain_bits_ref};
 ghost use Rattle.pkcs8.specs.Attributes.{attributes_bytes_ref};
 ghost use Rattle.update_document.specs.Spelling.{entry_der};
 ghost use Rattle.identity_update.specs.Canonical.{canonical_entry};
 ghost use Rattle.identity_update.specs.Checked.{checked_entry};
-ghost use Rattle.identity_update.specs.Kept.{IsKept, IsPlaced, AreKept, kept_any, kept_entry};
+ghost use Rattle.identity_update.specs.Kept.{IsKept, IsPlaced, kept_any, kept_entry};
 ghost use Rattle.identity_update.specs.Lawful.{HasOneKey};
 ghost use Rattle.identity_update.specs.Place.{FoundAt, IsWithin, part};
-ghost use Rattle.identity_update.specs.Places.{StandsAt, BeginsAt, attributes_field, behind_attributes, held_field};
+ghost use Rattle.identity_update.specs.Places.{StandsAt, attributes_field, behind_attributes, held_field};
 
+use crate::document_writer::DocumentWriter;
 use crate::entry::CheckedEntry;
+use crate::error::UpdateError;
 use crate::kept::{KeptAny, KeptEntry};
 use crate::place::Place;
 use der_core::{Encode, tagged_len};
 use der_small::BitStringRef;
 use pkcs8::AttributesRef;
-use std::alloc::{AllocError, Global};
 
 pub(crate) fn len_of<T: Encode>(value: &T) -> u32
     requires { length (T.encoding value.now) < 2 ^ 32 }
@@ -171,24 +171,21 @@ fn keep(document: &[u8], entry: CheckedEntry<'_>, end: u32) -> KeptEntry
     place(document, entry, end)
 }
 
-/// What is kept of entries whose encodings begin at this place in the document.
-pub(crate) fn keep_all(
-    alloc: Global,
-    document: &[u8],
-    start: u32,
-    entries: Vec<CheckedEntry<'_>>,
-) -> Result<Vec<KeptEntry>, AllocError>
-    requires stand { BeginsAt document.now (flat_map (λ e. entry_der (canonical_entry (checked_entry e))) entries.items) start }
-    requires one { AllByRecursion HasOneKey (map checked_entry entries.items) }
-    requires small { length document.now < 2 ^ 32 }
-    ensures value { IfOk result (λ kept. map (kept_entry document.now) kept.items ≡ map checked_entry entries.entry.items) }
-    ensures kept { IfOk result (λ kept. AreKept document.now kept.items) }
+/// Writes an entry behind those before it, and answers what is kept of it beside its encoding.
+pub(crate) fn append(
+    writer: &mut DocumentWriter,
+    entry: CheckedEntry<'_>,
+) -> Result<KeptEntry, UpdateError>
+    requires one { HasOneKey (checked_entry entry) }
+    requires fits { length writer.old.bytes.items + length (entry_der (canonical_entry (checked_entry entry))) < 2 ^ 32 }
+    ensures written { OnOk result (writer.new.bytes.items ≡ writer.old.bytes.items ++ entry_der (canonical_entry (checked_entry entry.entry))) }
+    ensures value { IfOk result (λ kept. kept_entry writer.new.bytes.items kept ≡ checked_entry entry.entry) }
+    ensures kept { IfOk result (IsKept writer.new.bytes.items) }
+    ensures memory { IfErr result (λ e. e ≡ UpdateError.OutOfMemory) }
 {
-    let mut kept = Vec::with_capacity(alloc, entries.len())?;
-    let mut end = start;
-    for entry in entries {
-        end += len_of(&entry);
-        kept.push(keep(document, entry, end))?;
-    }
-    Ok(kept)
+    let Ok(()) = entry.encode(writer) else {
+        return Err(UpdateError::OutOfMemory);
+    };
+    let end = writer.bytes.len() as u32;
+    Ok(keep(&writer.bytes, entry, end))
 }

@@ -11,6 +11,7 @@ ghost use Rattle.identity_update.specs.Reading.{Refuses, Writes};
 ghost use Rattle.identity_update.specs.Text.{IsWriteRefusal, update_text};
 ghost use Rattle.identity_update.specs.Verdict.{IsRefusal, verdict};
 
+use crate::assembly::assemble;
 use crate::bundle::BundleParts;
 use crate::entries::Entries;
 use crate::entry_parts::{EntryParts, borrow_entries};
@@ -26,10 +27,11 @@ use std::alloc::Global;
 use std::marker::Model;
 use std::str;
 
-/// A lawful update: its one document, and where the parts of its entries stand in it.
+/// A lawful update: its one document, where the encodings of its entries stand in it, and where the parts of each stand in these.
 #[derive(Drop)]
 pub struct Update {
     pub(crate) document: Vec<u8>,
+    pub(crate) identities: Place,
     pub(crate) entries: Vec<KeptEntry>,
     pub(crate) bundles: Vec<BundleParts>,
     pub(crate) set: JwtBundleSet,
@@ -42,9 +44,9 @@ impl Model for Update {
 
     ghost Value = { UpdateParts };
 
-    ghost view = { λ u. kept_update u.document.items u.entries.items u.bundles.items u.reason };
+    ghost view = { λ u. kept_update u.document.items u.identities u.entries.items u.bundles.items u.reason };
 
-    ghost invariant = { λ u. IsKeptUpdate u.document.items u.entries.items u.bundles.items u.set u.reason };
+    ghost invariant = { λ u. IsKeptUpdate u.document.items u.identities u.entries.items u.bundles.items u.set u.reason };
 }
 
 impl Update {
@@ -55,7 +57,8 @@ impl Update {
     {
         let bytes = decode_text(alloc, text, width)?;
         let document = document_in(alloc, &bytes)?;
-        judge(alloc, document)
+        let parts = judge(alloc, document, bytes.len())?;
+        assemble(parts, bytes)
     }
 
     /// The update of these entries and bundles, without a reason.
@@ -113,7 +116,7 @@ impl Update {
         ensures value { result ≡ self.now.entries }
         ensures lawful { IsLawful self.now }
     {
-        Entries::of(&self.document, &self.entries)
+        Entries::of(self.identities.of(&self.document), &self.entries)
     }
 
     /// The bundles, in the order of the document, with those that a later one replaces.

@@ -22,9 +22,13 @@ abbrev pub reason_der : Option (List ℕ) → List ℕ
 reason_der None = []
 reason_der (Some text) = encode 128 text
 
+-- the fields of a document behind its list of entries, from what is written of its bundles
+abbrev pub fields_behind : List ℕ → Option (List ℕ) → List ℕ
+fields_behind bundles reason = encode 48 bundles ++ reason_der reason
+
 -- the fields of a document, from what is written of its entries and of its bundles
 abbrev pub fields_written : List ℕ → List ℕ → Option (List ℕ) → List ℕ
-fields_written entries bundles reason = encode 48 entries ++ (encode 48 bundles ++ reason_der reason)
+fields_written entries bundles reason = encode 48 entries ++ fields_behind bundles reason
 
 abbrev pub document_content : WrittenUpdate → List ℕ
 document_content u = fields_written (flat_map entry_der u.entries) (flat_map bundle_der u.bundles) u.reason

@@ -1,6 +1,7 @@
 //! Documents of numbers in place of entries and bundles, put together by hand from X.690, and one update document, put together from the grammar by a few lines of Python over RFC 8410's keys.
 use crate::{WrittenDocument, read_document, read_update};
 use der_core::{Encode, Error};
+use der_lists::SequenceOf;
 use der_small::Utf8Ref;
 use std::test::Fail;
 
@@ -10,8 +11,9 @@ const UPDATE: &[u8] =
 
 #[test]
 fn written_documents_are_read(rt: HostRuntime) -> Result<(), Fail> {
+    let entries = SequenceOf([1u8, 2].as_slice());
     let written = WrittenDocument {
-        entries: [1u8, 2].as_slice(),
+        entries: &entries,
         bundles: [3u8].as_slice(),
         reason: Some(Utf8Ref::new("gone")?),
     };

@@ -1,10 +1,10 @@
 //! Writing a document.
-ghost use Rattle.std.specs.Prelude.{◌≡◌, ◌≤◌, option_map};
+ghost use Rattle.std.specs.Prelude.{◌≡◌, ◌++◌, ◌≤◌, option_map};
 ghost use Rattle.std.specs.List.{flat_map};
 ghost use Rattle.der_core.specs.Encode.{LengthOf, Wrote};
 ghost use Rattle.der_core.specs.Tags.{tag_48};
 ghost use Rattle.der_small.specs.Utf8.{text_ref};
-ghost use Rattle.update_document.specs.Spelling.{fields_written, reason_der};
+ghost use Rattle.update_document.specs.Spelling.{fields_behind, reason_der};
 
 use crate::document::REASON;
 use der_core::{
@@ -13,11 +13,11 @@ use der_core::{
 use der_lists::SequenceOf;
 use der_small::Utf8Ref;
 
-/// A document that is written of its entries, its bundles and its reason, whatever these are.
+/// A document that is written of its list of entries, its bundles and its reason, whatever these are.
 #[derive(Drop)]
-pub struct WrittenDocument<'d, E, B> {
-    /// The entries, in order.
-    pub entries: &'d [E],
+pub struct WrittenDocument<'d, L, B> {
+    /// The list of entries, as one value: a `SequenceOf`, or a list whose entries were written before.
+    pub entries: &'d L,
 
     /// The bundles, in order.
     pub bundles: &'d [B],
@@ -26,7 +26,7 @@ pub struct WrittenDocument<'d, E, B> {
     pub reason: Option<Utf8Ref<'d>>,
 }
 
-impl<'d, E, B> FixedTag for WrittenDocument<'d, E, B> {
+impl<'d, L, B> FixedTag for WrittenDocument<'d, L, B> {
     ghost tag = { 48 };
 
     ghost tag_is_valid = { tag_48 };
@@ -40,11 +40,11 @@ impl<'d, E, B> FixedTag for WrittenDocument<'d, E, B> {
     }
 }
 
-impl<'d, E: Encode, B: Encode> EncodeValue for WrittenDocument<'d, E, B> {
-    ghost content = { λ d. fields_written (flat_map E.encoding d.entries.now) (flat_map B.encoding d.bundles.now) (option_map text_ref d.reason) };
+impl<'d, L: Encode, B: Encode> EncodeValue for WrittenDocument<'d, L, B> {
+    ghost content = { λ d. L.encoding d.entries.now ++ fields_behind (flat_map B.encoding d.bundles.now) (option_map text_ref d.reason) };
 
     fn value_len(&self) -> Result<Length, Error> {
-        let entries = SequenceOf(self.entries).encoded_len()?;
+        let entries = self.entries.encoded_len()?;
         let bundles = SequenceOf(self.bundles).encoded_len()?;
         let reason = reason_len(&self.reason)?;
         entries.checked_add(bundles)?.checked_add(reason)
@@ -52,7 +52,7 @@ impl<'d, E: Encode, B: Encode> EncodeValue for WrittenDocument<'d, E, B> {
 
     fn encode_value<W: Writer>(&self, writer: &mut W) -> Result<(), Error> {
         let _ = self.value_len()?;
-        SequenceOf(self.entries).encode(writer)?;
+        self.entries.encode(writer)?;
         SequenceOf(self.bundles).encode(writer)?;
         encode_reason(&self.reason, writer)
     }
