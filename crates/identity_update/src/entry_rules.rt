@@ -111,12 +111,13 @@ fn check_entry<'a>(
     })
 }
 
-// Gives back the room of entries that were taken from the end, now and then.
+// Gives back room of entries that were taken from the end, whenever a quarter of it is free: so each entry is
+// moved a few times at most, also where memory is given back by a copy.
 fn give_back(left: &mut Vec<EntryRef<'_>>)
     ensures items { left.new.items ≡ left.old.items }
     ensures len { vec_len left.new ≡ vec_len left.old }
 {
-    if left.len() % 1024 == 0 {
+    if left.len() <= left.capacity() / 4 * 3 {
         left.shrink_to_fit();
     }
 }
