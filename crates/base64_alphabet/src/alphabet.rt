@@ -115,8 +115,8 @@ pub trait Alphabet: 'static + Copy + Debug + Eq + Sized {
         sum as u8
     }
 
-    /// Joins four six-bit numbers to a group of three bytes. A place of -1 answers 1, and counts as 63 in
-    /// the bytes. An implementation calls `group_high` or `group_low`.
+    /// Joins four six-bit numbers to a group of three bytes. A place of -1 answers 1, and the bytes are open
+    /// then. An implementation calls `group_high` or `group_low`.
     fn group_3bytes(c0: i16, c1: i16, c2: i16, c3: i16, dst: &mut [u8]) -> i16
         requires first { IsPlace c0 }
         requires second { IsPlace c1 }
@@ -124,8 +124,10 @@ pub trait Alphabet: 'static + Copy + Debug + Eq + Sized {
         requires fourth { IsPlace c3 }
         requires room { 3 ≤ length dst.old }
         ensures answer { result ≡ answer_of c0 c1 c2 c3 }
-        ensures written { dst.new ≡ bytes_of_places end (sextet c0) (sextet c1) (sextet c2) (sextet c3)
-            ++ drop 3 dst.old };
+        ensures written { result ≡ pos 0 →
+            dst.new ≡ bytes_of_places end (sextet c0) (sextet c1) (sextet c2) (sextet c3)
+            ++ drop 3 dst.old }
+        ensures rest { drop 3 dst.new ≡ drop 3 dst.old };
 
     /// Splits a group of three bytes into four six-bit numbers. An implementation calls `split_high` or
     /// `split_low`.
