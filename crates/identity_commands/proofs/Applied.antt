@@ -1,5 +1,5 @@
 -- The state that a source and its reader have after one update.
-use Rattle.std.proofs.Common.{◌≡◌, ℕ, ◌+◌, ◌⊎◌, inl, inr, List, [], ◌∷◌, ◌++◌, refl, sym, ap, ◌∙◌, subst}
+use Rattle.std.proofs.Common.{◌≡◌, ◌≢◌, ℕ, ◌+◌, ◌⊎◌, inl, inr, List, [], ◌∷◌, ◌++◌, refl, sym, ap, ◌∙◌, subst}
 use Rattle.identity_source.specs.History.{EndsWith, IsHistory, StartsWith, last_revision}
 use Rattle.identity_source.specs.NamedList.{NamedList, appended}
 use Rattle.identity_source.specs.Reader.{PlainReader, Renewed}
@@ -42,9 +42,9 @@ seen_is law old receipt x y fresh {told = told} {now = now} opened is fresh_is t
     (receipt_ends old receipt x is) renewed.1 (same ∙ receipt_revision old receipt x opened is)
 
 -- of two states of which each is the next one where it counts, either is it
-pub chosen_is : (seen latest y x : PlainState) (revision : ℕ) → ((seen.revision ≡ revision) × (y ≡ seen)) ⊎ (y ≡ latest) → (seen.revision ≡ revision → seen ≡ x) → latest ≡ x → y ≡ x
+pub chosen_is : (seen latest y x : PlainState) (revision : ℕ) → ((seen.revision ≡ revision) × (y ≡ seen)) ⊎ ((seen.revision ≢ revision) × (y ≡ latest)) → (seen.revision ≡ revision → seen ≡ x) → latest ≡ x → y ≡ x
 chosen_is seen latest y x revision (inl p) seen_is latest_is = p.1 ∙ seen_is p.0
-chosen_is seen latest y x revision (inr e) seen_is latest_is = e ∙ latest_is
+chosen_is seen latest y x revision (inr p) seen_is latest_is = p.1 ∙ latest_is
 
 -- the report of that state is the one of the update that the text writes, as revision 1
 pub is_reported : (width : ℕ) (text printed : List ℕ) (old : NamedList) (x y : PlainState) → old.list ≡ opening 0 ∷ [] → IsNextState (last_revision old.list) width text x

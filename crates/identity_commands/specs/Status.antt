@@ -1,5 +1,5 @@
 -- How commands end.
-use Rattle.std.specs.Prelude.{ℕ}
+use Rattle.std.specs.Prelude.{ℕ, List, Option, Some, None, codes}
 use Rattle.identity_io.specs.declared.whole.ReadError.{ReadError}
 use Rattle.identity_io.specs.declared.whole.ReadError.TheVariants as read
 use Rattle.identity_commands.specs.declared.status.Status.{Status}
@@ -15,6 +15,18 @@ status_number SinkFailed = 4
 status_number OutOfMemory = 5
 status_number TooLong = 6
 status_number BadScript = 7
+
+-- what a person is told of it, none where the output says it
+abbrev pub notice_text : Status → Option (List ℕ)
+notice_text Done = None
+notice_text Refused = None
+notice_text Usage = Some (codes "usage: identity_tool show WIDTH < UPDATE, serve WIDTH < SCRIPT, watch WIDTH WORKERS < SCRIPT or make N")
+notice_text SourceFailed = Some (codes "the input could not be read")
+notice_text SinkFailed = Some (codes "the output could not be written")
+notice_text OutOfMemory = Some (codes "no memory was left")
+notice_text TooLong =
+    Some (codes "the input has an update of more than 16777216 bytes, under watch updates of more than that together, or more than 10000 requests")
+notice_text BadScript = Some (codes "the script has a line that is no request, or ends before its end")
 
 -- how a command ends whose input was not read to its end
 abbrev pub read_status : ReadError → Status

@@ -1,5 +1,5 @@
 //! The command `show`, by a source and its reader.
-ghost use Rattle.std.specs.Prelude.{◌≡◌, ◌≤◌, ◌⊎◌, ◌∷◌, [], IfOk};
+ghost use Rattle.std.specs.Prelude.{◌≡◌, ◌≢◌, ◌≤◌, ◌⊎◌, ◌∷◌, [], IfOk};
 ghost use Rattle.identity_source.specs.Reader.{IsFresh};
 ghost use Rattle.identity_source.specs.State.{opening};
 ghost use Rattle.identity_commands.specs.Outcome.{Answers, HasSize, IsUntouched, Shows};
@@ -29,7 +29,7 @@ fn state_text(alloc: Global, state: &Snapshot) -> Result<Vec<u8>, AllocError>
 
 /// The state of this revision: the one that the reader gave, or else the source's last.
 pub fn chosen<'a>(seen: &'a Snapshot, latest: &'a Snapshot, revision: u64) -> &'a Snapshot
-    ensures { ((seen.now.revision ≡ revision) × (result.now ≡ seen.now)) ⊎ (result.now ≡ latest.now) }
+    ensures { ((seen.now.revision ≡ revision) × (result.now ≡ seen.now)) ⊎ ((seen.now.revision ≢ revision) × (result.now ≡ latest.now)) }
 {
     if seen.revision() == revision {
         seen

@@ -1,6 +1,6 @@
 //! Exit statuses.
-ghost use Rattle.std.specs.Prelude.{◌≡◌, ◌≤◌, ◌↔◌, IsNone};
-ghost use Rattle.identity_commands.specs.Status.{status_number};
+ghost use Rattle.std.specs.Prelude.{◌≡◌, ◌≤◌, ◌↔◌, IsNone, option_map};
+ghost use Rattle.identity_commands.specs.Status.{notice_text, status_number};
 
 use identity_io::ReadError;
 
@@ -54,7 +54,8 @@ impl Status {
 
     /// What a person at the terminal is told, none where the output says it.
     pub fn notice(self) -> Option<&'static str>
-        ensures { IsNone result ↔ (status_number self ≤ 1) }
+        ensures text { option_map (λ text. text.now) result ≡ notice_text self }
+        ensures above_one { IsNone result ↔ (status_number self ≤ 1) }
     {
         match self {
             Status::Done | Status::Refused => None,

@@ -1,5 +1,5 @@
 -- A reader that is told of all that its source does.
-use Rattle.std.proofs.Common.{◌≡◌, ℕ, ◌+◌, ◌<◌, ◌≤◌, ◌⊎◌, inl, inr, Bool, true, false, cond, nat_le, List, [], ◌∷◌, ◌++◌, length, length-append, refl, sym, ap, ◌∙◌, subst, ⊎_elim, arith, Result, Ok, Err, IfOk}
+use Rattle.std.proofs.Common.{◌≡◌, ◌≢◌, ℕ, ◌+◌, ◌<◌, ◌≤◌, ◌⊎◌, inl, inr, Bool, true, false, cond, nat_le, List, [], ◌∷◌, ◌++◌, length, length-append, refl, sym, ap, ◌∙◌, subst, ⊎_elim, arith, Result, Ok, Err, IfOk}
 use Rattle.std.proofs.lemmas.Bool.Decides.{leb_tells}
 use Rattle.identity_source.specs.State.{PlainState, opening}
 use Rattle.identity_source.specs.History.{IsHistory, StartsWith, EndsWith, first_revision, last_revision}
@@ -86,13 +86,13 @@ one_state law source reader seen latest a ends_seen ends_latest same =
 
 -- what is chosen of both is the source's last state
 chosen_ends : OneState → (source : NamedList) (reader : PlainReader) (seen latest y : PlainState) (revision : ℕ) → Attends source reader → EndsWith reader.list seen → EndsWith source.list latest
-    → revision ≡ latest.revision → ((seen.revision ≡ revision) × (y ≡ seen)) ⊎ (y ≡ latest) → EndsWith source.list y
+    → revision ≡ latest.revision → ((seen.revision ≡ revision) × (y ≡ seen)) ⊎ ((seen.revision ≢ revision) × (y ≡ latest)) → EndsWith source.list y
 chosen_ends law source reader seen latest y revision a ends_seen ends_latest at (inl p) =
     subst (λ (x : PlainState). EndsWith source.list x) (sym (p.1 ∙ one_state law source reader seen latest a ends_seen ends_latest (p.0 ∙ at))) ends_latest
-chosen_ends law source reader seen latest y revision a ends_seen ends_latest at (inr e) = subst (λ (x : PlainState). EndsWith source.list x) (sym e) ends_latest
+chosen_ends law source reader seen latest y revision a ends_seen ends_latest at (inr p) = subst (λ (x : PlainState). EndsWith source.list x) (sym p.1) ends_latest
 
 pub last_ends : OneState → (source : NamedList) (before : PlainReader) {now : PlainReader} (seen latest y : PlainState) (revision : ℕ) → Attends source before → Renewed before now × EndsWith now.list seen
-    → EndsWith source.list latest → revision ≡ latest.revision → ((seen.revision ≡ revision) × (y ≡ seen)) ⊎ (y ≡ latest) → EndsWith source.list y
+    → EndsWith source.list latest → revision ≡ latest.revision → ((seen.revision ≡ revision) × (y ≡ seen)) ⊎ ((seen.revision ≢ revision) × (y ≡ latest)) → EndsWith source.list y
 last_ends law source before {now = now} seen latest y revision a looked ends_latest at chosen =
     chosen_ends law source now seen latest y revision (looked_attends source before now a looked.0) looked.1 ends_latest at chosen
 

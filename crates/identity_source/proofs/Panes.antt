@@ -97,6 +97,8 @@ look_says : (name : SourceName) (memo : List (List PlainState)) (told v : Option
 look_says name memo told v x y l l' m r b k heeds h last rose = record {
   live = refl;
   rose = rose;
+  misses = refl;
+  refused = refl;
   more = (b.known x k heeds).1;
   all = (b.known x k heeds).0;
   last = last;

@@ -39,7 +39,7 @@ looked a b x y told l r goes saw =
       renewed = record {
         name = goes.name;
         is_live = goes.is_live;
-        look = record { live = saw.live; rose = saw.rose; whole = whole };
+        look = record { live = saw.live; rose = saw.rose; misses = saw.misses; refused = saw.refused; whole = whole };
         begins = begins;
         history = subst IsHistory (sym whole) saw.history;
       };

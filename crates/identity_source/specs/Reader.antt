@@ -26,10 +26,12 @@ pub record IsFresh (source : NamedList) (r : PlainReader) : Type 0 where
   pub refused : r.sight.refused ≡ 0
   pub look : r.look ≡ None
 
--- the window gave the last state of all that it has seen
+-- the window gave the last state of all that it has seen, and of its counts that of looks alone rose
 pub record LookedAt (a b : PlainReader) : Type 0 where
   pub live : a.sight.is_live ≡ true
   pub rose : Rose a.sight.looks b.sight.looks
+  pub misses : b.sight.misses ≡ a.sight.misses
+  pub refused : b.sight.refused ≡ a.sight.refused
   pub whole : b.list ≡ b.sight.seen
 
 -- the window missed, and the prefix stays

@@ -26,33 +26,39 @@ pub record Goes (a b : Sight) : Type 0 where
   pub refused : a.refused ≤ b.refused
   pub olds : b.olds ≡ a.olds
 
--- a look that gave the state x, the last of a list that begins with all that was seen and told
+-- a look that gave the state x, the last of a list that begins with all that was seen and told; of the counts that of looks alone rose
 pub record Looked (a b : Sight) (x : PlainState) : Type 0 where
   pub live : a.is_live ≡ true
   pub rose : Rose a.looks b.looks
+  pub misses : b.misses ≡ a.misses
+  pub refused : b.refused ≡ a.refused
   pub more : StartsWith b.seen a.seen
   pub all : EachBegins b.seen a.olds
   pub last : EndsWith b.seen x
   pub history : IsHistory b.seen
 
--- a live window found no state, and its list may have grown
-pub record MissedLive (a b : Sight) (before now : ℕ) : Type 0 where
+-- a live window found no state, and its list may have grown: of two counts the first rose and the second stays, as that of looks does
+pub record MissedLive (a b : Sight) (rising risen staying stayed : ℕ) : Type 0 where
   pub live : a.is_live ≡ true
-  pub rose : Rose before now
+  pub rose : Rose rising risen
+  pub other : stayed ≡ staying
+  pub looks : b.looks ≡ a.looks
   pub more : StartsWith b.seen a.seen
   pub history : IsHistory b.seen
 
--- a window without a place finds no state
+-- a window without a place finds no state: of the counts that of misses alone rose
 pub record MissedWithoutPlace (a b : Sight) : Type 0 where
   pub dead : a.is_live ≡ false
   pub rose : Rose a.misses b.misses
+  pub looks : b.looks ≡ a.looks
+  pub refused : b.refused ≡ a.refused
   pub same : b.seen ≡ a.seen
 
 -- why a look missed
 abbrev pub MissedBy : Sight → Sight → Missed → Type 0
 MissedBy a b NoPlace = MissedWithoutPlace a b
-MissedBy a b NoGuard = MissedLive a b a.misses b.misses
-MissedBy a b OutOfMemory = MissedLive a b a.refused b.refused
+MissedBy a b NoGuard = MissedLive a b a.misses b.misses a.refused b.refused
+MissedBy a b OutOfMemory = MissedLive a b a.refused b.refused a.misses b.misses
 
 -- the longer list, and the second where they are equally long
 abbrev pub longer : List PlainState → List PlainState → List PlainState
