@@ -3,7 +3,6 @@ use Rattle.std.proofs.lemmas.Grind.{common_steps}
 use Rattle.std.specs.Prelude.{reverse}
 use Rattle.update_document.specs.Refs.{written_entry}
 use Rattle.identity_update.specs.Checked.{checked_entry}
-use Rattle.identity_update.specs.Verdict.{entries_check}
 use Rattle.identity_update.proofs.EntryLaws.{entry_after, entry_has_room, popped}
 use Rattle.identity_update.proofs.VerdictLaws.{entry_has_one_key}
 use Rattle.identity_update.proofs.entry_rules.check_entries.Goals as goal

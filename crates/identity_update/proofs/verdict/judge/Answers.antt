@@ -1,4 +1,4 @@
-use Rattle.std.proofs.Common.{◌≡◌, ℕ, Ok, List, length, map, inl, sym, ap, ◌∙◌, arith}
+use Rattle.std.proofs.Common.{ℕ, List, map, inl, sym, ◌∙◌, arith}
 use Rattle.update_document.specs.Refs.{written_entry, written_update}
 use Rattle.identity_update.specs.Bundle.{plain_bundle}
 use Rattle.identity_update.specs.KeptEntries.{entries_of}
