@@ -1,6 +1,5 @@
 -- The document around entries that were written.
-use Rattle.std.proofs.Common.{◌≡◌, ℕ, ◌+◌, ◌<◌, ◌≤◌, ◌^◌, List, [], ◌++◌, length, map, option_map, Option, Some, None, IfSome, refl, sym, ap, subst, ◌∙◌, append-nil, length-append, arith}
-use Rattle.std.specs.Prelude.{string_bytes}
+use Rattle.std.proofs.Common.{◌≡◌, ℕ, ◌+◌, ◌≤◌, List, [], ◌++◌, length, map, option_map, Option, Some, None, IfSome, refl, sym, ap, subst, ◌∙◌, append-nil, length-append, arith}
 use Rattle.std.proofs.lemmas.List.Folds.{flat_map-map}
 use Rattle.std.specs.List.{flat_map}
 use Rattle.der_core.specs.Any.{PlainAny, der_of, plain_ref}
@@ -15,14 +14,9 @@ use Rattle.identity_update.specs.Assembled.{assembled, document_of}
 use Rattle.identity_update.specs.Bundle.{plain_bundle}
 use Rattle.identity_update.specs.Canonical.{canonical_bundle, canonical_entry, update_der}
 use Rattle.identity_update.specs.Checked.{checked_entry}
-use Rattle.identity_update.specs.Kept.{AreKept, IsKeptUpdate, IsReason, kept_entry, kept_update}
-use Rattle.identity_update.specs.KeptEntries.{entries_der, entries_of}
-use Rattle.identity_update.specs.Lawful.{IsLawful}
-use Rattle.identity_update.specs.LawfulParts.{AreLawfulParts, update_of}
-use Rattle.identity_update.specs.Parts.{Entry, UpdateParts}
-use Rattle.identity_update.specs.Place.{FoundAt, part}
+use Rattle.identity_update.specs.KeptEntries.{entries_der}
+use Rattle.identity_update.specs.Place.{FoundAt}
 use Rattle.identity_update.specs.Places.{Ends}
-use Rattle.identity_update.specs.declared.assembly.LawfulParts.{LawfulParts}
 use Rattle.identity_update.specs.declared.bundle.BundleParts.{BundleParts}
 use Rattle.identity_update.specs.declared.entry.CheckedEntry.{CheckedEntry}
 use Rattle.identity_update.specs.declared.place.Place.{Place}
@@ -98,35 +92,3 @@ reason_ends document written bundles reason is =
     let field : List ℕ = reason_der (option_map text_ref reason) in
     ends_in document reason
     (λ tail e. subst (Ends tail) (sym is) (ends_value 48 tail (first ++ (second ++ field)) (ends_second first tail (second ++ field) (ends_second second tail field e))))
-
--- what is written of lawful parts is the one document of their update
-pub document_is : (p : LawfulParts) (reason : Option Utf8Ref) → AreLawfulParts p → option_map text_ref reason ≡ option_map string_bytes p.reason → document_of p.entries.written.items p.bundles.parts.items reason ≡ update_der (update_of p)
-document_is p reason h is =
-    let bs : List ℕ = bundles_der p.bundles.parts.items in
-    ap (λ (s : List ℕ). encode 48 (fields_written s bs (option_map text_ref reason))) h.entries.are
-    ∙ ap (λ (r : Option (List ℕ)). encode 48 (fields_written (entries_der (entries_of p.entries)) bs r)) is
-
-pub document_fits : (p : LawfulParts) (reason : Option Utf8Ref) → AreLawfulParts p → option_map text_ref reason ≡ option_map string_bytes p.reason → length (document_of p.entries.written.items p.bundles.parts.items reason) < 2 ^ 32
-document_fits p reason h is = subst (λ (d : List ℕ). length d < 2 ^ 32) (sym (document_is p reason h is)) h.fits
-
--- the update that is kept is that of the parts
-pub kept_is : (p : LawfulParts) (document : List ℕ) (at : Place) (r : Option Place) → FoundAt document at p.entries.written.items → option_map (part document) r ≡ option_map string_bytes p.reason → kept_update document at p.entries.entries.items p.bundles.parts.items r ≡ update_of p
-kept_is p document at r found is =
-    let of : List Entry → Option (List ℕ) → UpdateParts = λ es reason. record { entries = es; bundles = map plain_bundle p.bundles.parts.items; reason = reason } in
-    ap (λ (w : List ℕ). of (map (kept_entry w) p.entries.entries.items) (option_map (part document) r)) found.is
-    ∙ ap (of (entries_of p.entries)) is
-
-pub is_kept : (p : LawfulParts) (document : List ℕ) (at : Place) (reason : Option Utf8Ref) (r : Option Place) → AreLawfulParts p → option_map text_ref reason ≡ option_map string_bytes p.reason → document ≡ document_of p.entries.written.items p.bundles.parts.items reason → FoundAt document at p.entries.written.items → option_map (part document) r ≡ option_map text_ref reason → IfSome r (IsReason document)
-    → IsKeptUpdate document at p.entries.entries.items p.bundles.parts.items p.bundles.set r
-is_kept p document at reason r h lent is found seen within =
-    let same = kept_is p document at r found (seen ∙ lent) in
-    let whole : document ≡ update_der (update_of p) = is ∙ document_is p reason h lent in
-    record {
-      within = found.within;
-      entries = subst (λ (w : List ℕ). AreKept w p.entries.entries.items) (sym found.is) h.entries.kept;
-      reason = within;
-      small = subst (λ (d : List ℕ). length d < 2 ^ 32) (sym whole) h.fits;
-      document_is = whole ∙ ap update_der (sym same);
-      set_is = h.set;
-      lawful = subst IsLawful (sym same) h.lawful;
-    }

@@ -1,5 +1,5 @@
 -- The rules of entries, tried in turn while entries are written.
-use Rattle.std.proofs.Common.{◌≡◌, ℕ, ◌+◌, ◌<◌, ◌^◌, List, [], ◌∷◌, ◌++◌, length, map, Result, Ok, Err, refl, sym, ap, ◌∙◌, inl, inr, append_assoc, append-nil, length-append, arith}
+use Rattle.std.proofs.Common.{◌≡◌, ℕ, ◌+◌, ◌<◌, ◌^◌, List, [], ◌∷◌, ◌++◌, length, map, Result, Ok, Err, refl, sym, ap, ◌∙◌, append_assoc, length-append, arith}
 use Rattle.std.proofs.lemmas.List.{reverse-append}
 use Rattle.std.specs.List.{flat_map}
 use Rattle.std.specs.Prelude.{reverse}
@@ -12,18 +12,14 @@ use Rattle.identity_update.specs.Kept.{IsKept, kept_entry}
 use Rattle.identity_update.specs.KeptEntries.{AreWritten, entries_der}
 use Rattle.identity_update.specs.Parts.{Entry}
 use Rattle.identity_update.specs.PartsVerdict.{pairs_check}
-use Rattle.identity_update.specs.Verdict.{IsRefusal, entries_check, entry_check, keys_check}
+use Rattle.identity_update.specs.Verdict.{entries_check, entry_check, keys_check}
 use Rattle.identity_update.specs.declared.error.UpdateError.{UpdateError}
 use Rattle.identity_update.specs.declared.kept.KeptEntry.{KeptEntry}
-use Rattle.identity_update.proofs.KeptLaws.{no_entries, pushed}
+use Rattle.identity_update.proofs.KeptLaws.{pushed}
 use Rattle.identity_update.proofs.VerdictLaws.{entry_fits_in}
 
 abbrev with_others : List Entry → Result (List Entry) UpdateError → Result (List Entry) UpdateError
 with_others old r = map_ok (λ more. old ++ more) r
-
-with_none : (r : Result (List Entry) UpdateError) → with_others [] r ≡ r
-with_none (Ok more) = refl
-with_none (Err e) = refl
 
 with_one : (old : List Entry) (v : Entry) (r : Result (List Entry) UpdateError) → with_others (old ++ v ∷ []) r ≡ with_others old (map_ok (λ more. v ∷ more) r)
 with_one old v (Ok more) =
@@ -36,9 +32,6 @@ pub record EntriesSoFar (written : List ℕ) (kept : List KeptEntry) (left : Lis
   pub are : AreWritten written kept
   pub so : map_ok (λ more. map (kept_entry written) kept ++ more) (entries_check (length kept) left) ≡ all
   pub fits : length written + length (flat_map entry_der left) < 2 ^ 32
-
-pub before_entries : (all : List WrittenEntry) → length (flat_map entry_der all) < 2 ^ 32 → EntriesSoFar [] [] all (entries_check 0 all)
-before_entries all fits = record { are = no_entries; so = with_none (entries_check 0 all); fits = omega arith }
 
 pub entry_has_room : (written : List ℕ) (kept : List KeptEntry) (first : WrittenEntry) (rest : List WrittenEntry) (all : Result (List Entry) UpdateError) (n : ℕ) (v : Entry) → EntriesSoFar written kept (first ∷ rest) all → entry_check n first ≡ Ok v → length written + length (entry_der (canonical_entry v)) < 2 ^ 32
 entry_has_room written kept first rest all n v h ok =
@@ -71,17 +64,6 @@ entry_after written kept first rest all n v e new fs h at ok is push same one =
       fits = omega arith;
     }
 
-pub entry_refused : (written : List ℕ) (kept : List KeptEntry) (first : WrittenEntry) (rest : List WrittenEntry) (all : Result (List Entry) UpdateError) (n : ℕ) (e : UpdateError) → EntriesSoFar written kept (first ∷ rest) all → n ≡ length kept → IsRefusal (entry_check n first) e → IsRefusal all e
-unfolding then_first
-entry_refused written kept first rest all n e h at (inl is) =
-    inl (sym h.so ∙ ap (then_first (map (kept_entry written) kept) rest (length kept)) (ap (λ (k : ℕ). entry_check k first) (sym at) ∙ is))
-entry_refused written kept first rest all n e h at (inr memory) = inr memory
-
-pub after_entries : (written : List ℕ) (kept : List KeptEntry) (all : Result (List Entry) UpdateError) → EntriesSoFar written kept [] all → all ≡ Ok (map (kept_entry written) kept)
-after_entries written kept all h =
-    let ok : List Entry → Result (List Entry) UpdateError = λ vs. Ok vs in
-    sym h.so ∙ ap ok (append-nil (map (kept_entry written) kept))
-
 -- the last of a reversed list is the next one
 pub popped : (old new : List EntryRef) (entry : EntryRef) → old ≡ new ++ entry ∷ [] → map written_entry (reverse old) ≡ written_entry entry ∷ map written_entry (reverse new)
 popped old new entry is = ap (λ (es : List EntryRef). map written_entry (reverse es)) is ∙ ap (map written_entry) (reverse-append new (entry ∷ []))
@@ -92,15 +74,6 @@ pub record PairsSoFar (written : List ℕ) (kept : List KeptEntry) (left all : L
   pub pairs : pairs_check (length kept) left ≡ pairs_check 0 all
   pub entries : map (kept_entry written) kept ++ left ≡ all
   pub fits : length written + length (entries_der left) < 2 ^ 32
-
-pub before_pairs : (all : List Entry) → length (entries_der all) < 2 ^ 32 → PairsSoFar [] [] all all
-before_pairs all fits = record { are = no_entries; pairs = refl; entries = refl; fits = omega arith }
-
-pub pair_has_room : (written : List ℕ) (kept : List KeptEntry) (first : Entry) (rest all : List Entry) → PairsSoFar written kept (first ∷ rest) all → length written + length (entry_der (canonical_entry first)) < 2 ^ 32
-pair_has_room written kept first rest all h =
-    let fits = h.fits in
-    let sum = length-append (entry_der (canonical_entry first)) (entries_der rest) in
-    omega arith
 
 then_pairs : List Entry → ℕ → Result (Unit {0}) UpdateError → Result (Unit {0}) UpdateError
 then_pairs rest n r = then_ok r (λ _. pairs_check (n + 1) rest)
@@ -120,11 +93,3 @@ pair_after written kept first rest all n e new fs h at ok is push same one =
       entries = ap (λ (vs : List Entry). vs ++ rest) p.entries ∙ append_assoc old (first ∷ []) rest ∙ h.entries;
       fits = omega arith;
     }
-
-pub pair_refused : (written : List ℕ) (kept : List KeptEntry) (first : Entry) (rest all : List Entry) (n : ℕ) (e : UpdateError) → PairsSoFar written kept (first ∷ rest) all → n ≡ length kept → keys_check n first.private_key first.public_key ≡ Err e → pairs_check 0 all ≡ Err e
-unfolding then_pairs
-pair_refused written kept first rest all n e h at broken =
-    sym h.pairs ∙ ap (then_pairs rest (length kept)) (ap (λ (k : ℕ). keys_check k first.private_key first.public_key) (sym at) ∙ broken)
-
-pub after_pairs : (written : List ℕ) (kept : List KeptEntry) (all : List Entry) → PairsSoFar written kept [] all → map (kept_entry written) kept ≡ all
-after_pairs written kept all h = sym (append-nil (map (kept_entry written) kept)) ∙ h.entries

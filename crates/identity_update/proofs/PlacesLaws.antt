@@ -1,5 +1,5 @@
 -- Where the parts of an entry stand in its encoding.
-use Rattle.std.proofs.Common.{◌≡◌, ℕ, ◌+◌, ◌<◌, ◌≤◌, ◌^◌, List, [], ◌∷◌, ◌++◌, length, Option, Some, None, IfSome, option_map, refl, sym, ap, subst, ◌∙◌, append_assoc, append-nil, length-append, arith}
+use Rattle.std.proofs.Common.{◌≡◌, ℕ, ◌+◌, ◌<◌, ◌≤◌, ◌^◌, List, [], ◌∷◌, ◌++◌, length, Option, Some, sym, ap, subst, ◌∙◌, append_assoc, append-nil, length-append, arith}
 use Rattle.der_core.specs.Any.{PlainAny, der_of}
 use Rattle.der_core.specs.Der.{encode}
 use Rattle.spiffe_id.specs.SpiffeId.{id_text}
@@ -9,19 +9,10 @@ use Rattle.spki.specs.PlainPublicKey.{public_key_der}
 use Rattle.pkcs8.specs.PlainPrivateKey.{plain_texts, private_key_der}
 use Rattle.pkcs8.specs.PrivateKey.{attributes_tag, fields_written}
 use Rattle.pkcs8.specs.Version.{version_byte, version_of}
-use Rattle.spiffe_id.specs.SpiffeId.{Id}
-use Rattle.der_small.specs.Bits.{PlainBits}
-use Rattle.spki.specs.PlainAlgorithm.{PlainAlgorithm}
-use Rattle.spki.specs.PlainPublicKey.{PlainPublicKey}
-use Rattle.pkcs8.specs.PlainPrivateKey.{PlainPrivateKey}
-use Rattle.std.specs.Prelude.{is_some, if◌then◌else◌, Bool, true, false}
-use Rattle.identity_update.specs.Kept.{kept_algorithm, kept_bits, kept_entry}
-use Rattle.identity_update.specs.declared.kept.KeptEntry.{KeptEntry}
 use Rattle.identity_update.specs.Parts.{Entry}
-use Rattle.identity_update.specs.Place.{FoundAt, part}
+use Rattle.identity_update.specs.Place.{FoundAt}
 use Rattle.update_document.specs.Spelling as spelling
 use Rattle.identity_update.specs.Canonical.{canonical_entry}
-use Rattle.identity_update.specs.Lawful.{HasOneKey}
 use Rattle.identity_update.specs.Places.{Ends, StandsAt, attributes_field, behind_attributes, behind_octets, held_field}
 use Rattle.identity_update.specs.declared.place.Place.{Place}
 use Rattle.identity_update.proofs.Ends.{ends_self, ends_cons, ends_value, ends_first, ends_second, found_at}
@@ -102,9 +93,6 @@ ends_suffix a b whole x = record { front = x.front ++ a; is = x.is ∙ sym (appe
 pub behind_octets_end : (e : Entry) → Ends (behind_octets e) (entry_der e)
 behind_octets_end e = ends_suffix e.private_key.private_key (behind_octets e) (entry_der e) (octets_end e)
 
-pub behind_attributes_end : (e : Entry) → Ends (behind_attributes e) (entry_der e)
-behind_attributes_end e = ends_suffix (attributes_field e.private_key.attributes) (behind_attributes e) (entry_der e) (behind_octets_end e)
-
 -- a part that stands before the last `back` bytes of the entry
 pub found_in : (document bytes middle back : List ℕ) (end : ℕ) (p : Place) → StandsAt document bytes end → Ends (middle ++ back) bytes → p.end + length back ≡ end → p.start + length middle ≡ p.end → FoundAt document p middle
 found_in document bytes middle back end p s e after before = found_at document s.pre bytes s.post middle back end p s.is s.at e after before
@@ -132,33 +120,6 @@ behind_fits document e end s small =
     let sum = length-append (attributes_field e.private_key.attributes) (behind_attributes e) in
     let both = length-append (held_field e.private_key.public_key) (public_key_der e.public_key) in
     omega arith
-
-held_key : (h : Bool) (o : Option PlainBits) (key : PlainBits) → h ≡ is_some o → IfSome o (λ k. k ≡ key) → (if h then Some key else None) ≡ o
-held_key true None key e s = cc
-held_key true (Some k) key e s = let some : PlainBits → Option PlainBits = λ x. Some x in ap some (sym s)
-held_key false None key e s = refl
-held_key false (Some k) key e s = cc
-
--- what is kept is the entry
-pub kept_same : (document : List ℕ) (k : KeptEntry) (e : Entry) → k.id ≡ e.id → kept_algorithm document k ≡ e.public_key.algorithm → part document k.octets ≡ e.private_key.private_key → option_map (part document) k.attributes ≡ e.private_key.attributes → kept_bits document k ≡ e.public_key.key → k.holds_public_key ≡ is_some e.private_key.public_key → HasOneKey e → kept_entry document k ≡ e
-kept_same document k e id algorithm octets attributes bits holds one =
-    let with_id : Id → Entry = λ x. record { id = x; private_key = (kept_entry document k).private_key; public_key = (kept_entry document k).public_key } in
-    let with_private : PlainPrivateKey → Entry = λ x. record { id = e.id; private_key = x; public_key = (kept_entry document k).public_key } in
-    let with_public : PlainPublicKey → Entry = λ x. record { id = e.id; private_key = e.private_key; public_key = x } in
-    let private_algorithm : PlainAlgorithm → PlainPrivateKey = λ x. record { algorithm = x; private_key = part document k.octets; attributes = option_map (part document) k.attributes; public_key = (kept_entry document k).private_key.public_key } in
-    let private_octets : List ℕ → PlainPrivateKey = λ x. record { algorithm = e.private_key.algorithm; private_key = x; attributes = option_map (part document) k.attributes; public_key = (kept_entry document k).private_key.public_key } in
-    let private_attributes : Option (List ℕ) → PlainPrivateKey = λ x. record { algorithm = e.private_key.algorithm; private_key = e.private_key.private_key; attributes = x; public_key = (kept_entry document k).private_key.public_key } in
-    let private_held : Option PlainBits → PlainPrivateKey = λ x. record { algorithm = e.private_key.algorithm; private_key = e.private_key.private_key; attributes = e.private_key.attributes; public_key = x } in
-    let public_algorithm : PlainAlgorithm → PlainPublicKey = λ x. record { algorithm = x; key = kept_bits document k } in
-    let public_bits : PlainBits → PlainPublicKey = λ x. record { algorithm = e.public_key.algorithm; key = x } in
-    let held : (if k.holds_public_key then Some (kept_bits document k) else None) ≡ e.private_key.public_key = held_key k.holds_public_key e.private_key.public_key (kept_bits document k) holds (rw bits one.held) in
-    ap with_id id
-    ∙ ap with_private (ap private_algorithm (algorithm ∙ sym one.algorithm) ∙ ap private_octets octets ∙ ap private_attributes attributes ∙ ap private_held held)
-    ∙ ap with_public (ap public_algorithm algorithm ∙ ap public_bits bits)
-
-pub some_map : {X Y : Type 0} (f : X → Y) (o : Option X) → is_some o ≡ is_some (option_map f o)
-some_map f None = refl
-some_map f (Some x) = refl
 
 -- the public key of an entry that stands in a document is not too long
 pub public_key_fits : (document : List ℕ) (e : Entry) (end : ℕ) → StandsAt document (entry_der e) end → length document < 2 ^ 32 → length (public_key_der e.public_key) < 2 ^ 32

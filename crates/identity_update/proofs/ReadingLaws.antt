@@ -11,7 +11,7 @@ use Rattle.update_document.specs.Document.{IsReasonText, ReadsReason}
 use Rattle.update_document.specs.Written.{ReadsUpdate, WrittenUpdate}
 use Rattle.update_document.proofs.OneLaws.{update_one}
 use Rattle.identity_update.specs.Parts.{UpdateParts}
-use Rattle.identity_update.specs.Reading.{BreaksRule, HasLength, IsDocumentRefusal, IsNoDocument, IsTextRefusal, Refuses, Writes, WritesBytes, WritesDocument}
+use Rattle.identity_update.specs.Reading.{BreaksRule, HasLength, IsNoDocument, Refuses, Writes, WritesBytes, WritesDocument}
 use Rattle.identity_update.specs.Verdict.{IsRefusal, verdict}
 use Rattle.identity_update.specs.declared.error.UpdateError.{UpdateError}
 use Rattle.identity_update.specs.declared.error.UpdateError.TheVariants.{AlgorithmMismatch, Authorities, Document, Domain, MissingBundle, MissingRequiredField, OutOfMemory, PublicKeyMismatch, RevisionsUsedUp, Subject, Text, WithdrawalWithEntries}
@@ -123,19 +123,6 @@ same_refusal width text e f one (by_rule w writes is) (by_rule w' writes' is') =
 
 pub one_refusal : (width : ℕ) (text : List ℕ) (e f : UpdateError) → WritesOne → Refuses width text e → Refuses width text f → e ≢ OutOfMemory → f ≢ OutOfMemory → e ≡ f
 one_refusal width text e f one x y some some' = same_refusal width text e f one (refusal_of width text e some x) (refusal_of width text f some' y)
-
--- from the steps of reading to the refusal of the text
-pub text_refused : (width : ℕ) (text : List ℕ) (e : UpdateError) → IsTextRefusal width text e → Refuses width text e
-text_refused width text (Text base64.InvalidLength) r = r
-text_refused width text (Text base64.InvalidEncoding) r = r
-text_refused width text (Text base64.OutOfMemory) r = r
-text_refused width text OutOfMemory r = tt
-text_refused width text _ r = absurd r
-
-pub document_refused : (width : ℕ) (text bytes : List ℕ) (e : UpdateError) → HasLength width text → WritesBytes width text bytes → IsDocumentRefusal bytes e → Refuses width text e
-document_refused width text bytes (Document cause) has are r = (has, (bytes, are, r))
-document_refused width text bytes OutOfMemory has are r = tt
-document_refused width text bytes _ has are r = absurd r
 
 breaks_rule : (width : ℕ) (text : List ℕ) (w : WrittenUpdate) (e : UpdateError) → WritesDocument width text w → IsRule e → verdict w ≡ Err e → Refuses width text e
 breaks_rule width text w RevisionsUsedUp writes rule is = absurd rule
