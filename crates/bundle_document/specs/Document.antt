@@ -10,7 +10,9 @@ use Rattle.spiffe_json.specs.Json.{whole_json}
 use Rattle.spiffe_core.specs.JwtAuthority.{Authority}
 use Rattle.bundle_document.specs.Keys.{elements, key_set_value, is_jwt_key, is_named, named_authority}
 
--- its sequence number and its refresh hint in seconds, how many keys it had for X.509 and how many for no use that is known, its keys for tokens in their order, each with its key ID and its compact JSON, and how deep their key set nests
+-- its sequence number and its refresh hint in seconds, how many keys it had for X.509 and how many for no use that
+-- is known, its keys for tokens in their order, each with its key ID and its compact JSON, and how deep their key
+-- set nests
 pub record Document : Type 0 where
   pub sequence : Option ℕ
   pub refresh_hint : Option ℕ

@@ -35,7 +35,8 @@ pub record Cut (count most : ℕ) (bytes : List ℕ) : Type 0 where
   pub starts : Starts bytes n (Request (Update size))
   pub missing : HasBlock size (drop (n + 1) bytes) → ⊥
 
--- how a script ends whose rest is this, behind so many requests and where the next update may have so many bytes: of one line its form comes first, then the number of requests, then the size of an update
+-- how a script ends whose rest is this, behind so many requests and where the next update may have so many bytes:
+-- of one line its form comes first, then the number of requests, then the size of an update
 abbrev pub EndsAs : ℕ → ℕ → List ℕ → Ending → Type 0
 EndsAs count most bytes Done = Begins bytes End
 EndsAs count most bytes TooLong = ((10000 ≤ count) × ((form : Form) × Begins bytes (Request form)))
