@@ -34,11 +34,11 @@ const ENDS: [(&[u8], &[u8]); 5] = [
     (b"\x80\x04gone", b"\x00"),
 ];
 
-fn sequence(alloc: Global, parts: &[&[u8]]) -> Result<Vec<u8>, Fail> {
+fn sequence(alloc: Global, first: &[u8], second: &[u8], last: &[u8]) -> Result<Vec<u8>, Fail> {
     let mut content = Vec::new(alloc);
-    for part in parts {
-        content.extend_from_slice(part)?;
-    }
+    content.extend_from_slice(first)?;
+    content.extend_from_slice(second)?;
+    content.extend_from_slice(last)?;
     Ok(AnyRef::new(Tag::from_valid(Tag::SEQUENCE), &content)?.to_der(alloc)?)
 }
 
@@ -111,15 +111,11 @@ fn first_of_all_broken_rules_is_named(rt: HostRuntime) -> Result<(), Fail> {
         for number in 0..400 {
             let entries = (number % 5, number / 5 % 5);
             let bundles = (number / 25 % 4, number / 100);
-            let identities = sequence(
-                alloc,
-                &[part(&ENTRIES, entries.0), part(&ENTRIES, entries.1)],
-            )?;
-            let listed = sequence(
-                alloc,
-                &[part(&BUNDLES, bundles.0), part(&BUNDLES, bundles.1)],
-            )?;
-            let mut document = sequence(alloc, &[&identities, &listed, reason])?;
+            let (first, second) = (part(&ENTRIES, entries.0), part(&ENTRIES, entries.1));
+            let identities = sequence(alloc, first, second, b"")?;
+            let (first, second) = (part(&BUNDLES, bundles.0), part(&BUNDLES, bundles.1));
+            let listed = sequence(alloc, first, second, b"")?;
+            let mut document = sequence(alloc, &identities, &listed, reason)?;
             let rule = first_rule(entries, bundles, end, document.len());
             document.extend_from_slice(behind)?;
             let text = Base64::encode_string(alloc, &document)?;
