@@ -1,5 +1,18 @@
 //! Base64 (RFC 4648) in eight alphabets, without a table look-up or a branch on a character: whole texts
 //! by `Encoding`, and texts in lines (as in RFC 7468) by `Encoder` and `Decoder`.
+//!
+//! ```text
+//! let mut room = [0; 9];
+//! let mut encoder: Encoder<Base64> = Encoder::new_wrapped(&mut room, 4, LineEnding::LF)?;
+//! encoder.encode(b"fo")?;
+//! encoder.encode(b"obar")?;
+//! assert_eq!(encoder.finish()?, "Zm9v\nYmFy");
+//!
+//! let mut bytes = [0; 6];
+//! let mut decoder: Decoder<Base64> = Decoder::new_wrapped(b"Zm9v\r\nYmFy", 4)?;
+//! assert_eq!(decoder.decode(&mut bytes)?, b"foobar");
+//! assert!(decoder.is_finished());
+//! ```
 #![tactic(auto)]
 
 mod decoder;

@@ -40,7 +40,8 @@ fn documents_are_read(rt: HostRuntime) {
             Some(600),
             1,
             0,
-            r#"{"keys":[{"crv":"P-256","kid":"C6vs25welZOx6WksNYfbMfiw9l96pMnD","kty":"EC","use":"jwt-svid","x":"ngL","y":"qnV"},{"e":"AQAB","kid":"gHTCunJbefYtnZnTctd84xeRWyMrEsWD","kty":"RSA","n":"0vx","use":"jwt-svid"}]}"#,
+            "{\"keys\":[{\"crv\":\"P-256\",\"kid\":\"C6vs25welZOx6WksNYfbMfiw9l96pMnD\",\"kty\":\"EC\",\"use\":\"jwt-svid\",\"x\":\"ngL\",\"y\":\"qnV\"},\
+             {\"e\":\"AQAB\",\"kid\":\"gHTCunJbefYtnZnTctd84xeRWyMrEsWD\",\"kty\":\"RSA\",\"n\":\"0vx\",\"use\":\"jwt-svid\"}]}",
         ),
         (r#"{"keys":[]}"#, None, None, 0, 0, r#"{"keys":[]}"#),
         (

@@ -58,7 +58,15 @@ read_value_again tag content rest t fits =
     let n : ℕ = length content in
     let w : length content < 2 ^ 32 = omega arith in
     let below : length content ≤ length (content ++ rest) = omega (arith, length-append content rest) in
-    rw (encode_append tag content rest, tag_is tag t, read_length_again n (content ++ rest) w, lt-ltb n 4294967290 small, le-ltb (length (content ++ rest)) n below, take-append_seam content rest, drop-append_seam content rest) refl
+    rw (
+      encode_append tag content rest,
+      tag_is tag t,
+      read_length_again n (content ++ rest) w,
+      lt-ltb n 4294967290 small,
+      le-ltb (length (content ++ rest)) n below,
+      take-append_seam content rest,
+      drop-append_seam content rest,
+    ) refl
 
 pub Found : List ℕ → ℕ × List ℕ × List ℕ → Type 0
 Found s f = (s ≡ encode f.0 f.1 ++ f.2) × IsTag f.0 × (length (encode f.0 f.1) < 2 ^ 32)

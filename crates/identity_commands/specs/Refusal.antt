@@ -9,7 +9,20 @@ use Rattle.spiffe_json.specs.declared.error.JsonError.TheVariants as json
 use Rattle.spiffe_core.specs.declared.error.JwtBundleError.{JwtBundleError}
 use Rattle.spiffe_core.specs.declared.error.JwtBundleError.TheVariants as keys
 use Rattle.identity_update.specs.declared.error.UpdateError.{UpdateError}
-use Rattle.identity_update.specs.declared.error.UpdateError.TheVariants.{RevisionsUsedUp, Text, Document, MissingRequiredField, WithdrawalWithEntries, Subject, AlgorithmMismatch, PublicKeyMismatch, Domain, Authorities, MissingBundle, OutOfMemory}
+use Rattle.identity_update.specs.declared.error.UpdateError.TheVariants.{
+  RevisionsUsedUp,
+  Text,
+  Document,
+  MissingRequiredField,
+  WithdrawalWithEntries,
+  Subject,
+  AlgorithmMismatch,
+  PublicKeyMismatch,
+  Domain,
+  Authorities,
+  MissingBundle,
+  OutOfMemory,
+}
 
 -- the rule of an identifier that is broken
 abbrev pub id_rule : SpiffeIdError → List ℕ

@@ -22,10 +22,18 @@ const REPORT: &str =
 // Two identities, and three bundles of which the last replaces the first. Trust domains and key IDs ascend in the
 // report, the last of equal key IDs counts, one key ID is empty, and one has a space, `%`, `~` and a letter beyond ASCII.
 const SEVERAL: &str =
-    "MIIBqzCB4DBvDBFzcGlmZmU6Ly9iLnRlc3QveDAuAgEAMAUGAytlcAQiBCARERERERERERERERERERERERERERERERERERERERERETAqMAUGAytlcAMhAE0pFn8/GRKm9636KToFGhXAXsZ7jxcmexxVUNzoU70NMG0MD1NQSUZGRTovL0EudGVzdDAuAgEAMAUGAytlcAQiBCARERERERERERERERERERERERERERERERERERERERERETAqMAUGAytlcAMhAE0pFn8/GRKm9636KToFGhXAXsZ7jxcmexxVUNzoU70NMIHFMCIMBmIudGVzdAQYeyJrZXlzIjpbeyJraWQiOiJvbGQifV19MG8ME3NwaWZmZTovL0EuVEVTVC9hbnkEWHsia2V5cyI6W3sia2lkIjoiIn0seyJraWQiOiJhIGIlflx1MDBlOSIsImt0eSI6IkVDIn0seyJraWQiOiJhIGIlflx1MDBlOSIsImt0eSI6IlJTQSJ9XX0wLgwGYi50ZXN0BCR7ImtleXMiOlt7ImtpZCI6ImsyIn0seyJraWQiOiJrMSJ9XX0=";
+    "MIIBqzCB4DBvDBFzcGlmZmU6Ly9iLnRlc3QveDAuAgEAMAUGAytlcAQiBCARERERERERERERERERERERERERERERERERERERERERETAqM\
+     AUGAytlcAMhAE0pFn8/GRKm9636KToFGhXAXsZ7jxcmexxVUNzoU70NMG0MD1NQSUZGRTovL0EudGVzdDAuAgEAMAUGAytlcAQiBCARER\
+     ERERERERERERERERERERERERERERERERERERERETAqMAUGAytlcAMhAE0pFn8/GRKm9636KToFGhXAXsZ7jxcmexxVUNzoU70NMIHFMCI\
+     MBmIudGVzdAQYeyJrZXlzIjpbeyJraWQiOiJvbGQifV19MG8ME3NwaWZmZTovL0EuVEVTVC9hbnkEWHsia2V5cyI6W3sia2lkIjoiIn0s\
+     eyJraWQiOiJhIGIlflx1MDBlOSIsImt0eSI6IkVDIn0seyJraWQiOiJhIGIlflx1MDBlOSIsImt0eSI6IlJTQSJ9XX0wLgwGYi50ZXN0B\
+     CR7ImtleXMiOlt7ImtpZCI6ImsyIn0seyJraWQiOiJrMSJ9XX0=";
 
-const SEVERAL_REPORT: &str =
-    "revision 1\nidentity spiffe://b.test/x 1.3.101.112 Vd1MdLDkhTTi9OFzzs61DfjyenrCqomRzHrpFOAwvO0=\nidentity spiffe://a.test 1.3.101.112 Vd1MdLDkhTTi9OFzzs61DfjyenrCqomRzHrpFOAwvO0=\nbundle a.test 2  a%20b%25~%C3%A9\nbundle b.test 2 k1 k2\n";
+const SEVERAL_REPORT: &str = "revision 1\n\
+     identity spiffe://b.test/x 1.3.101.112 Vd1MdLDkhTTi9OFzzs61DfjyenrCqomRzHrpFOAwvO0=\n\
+     identity spiffe://a.test 1.3.101.112 Vd1MdLDkhTTi9OFzzs61DfjyenrCqomRzHrpFOAwvO0=\n\
+     bundle a.test 2  a%20b%25~%C3%A9\n\
+     bundle b.test 2 k1 k2\n";
 
 // Withdrawals: with the bundle of the sample, and with no bundle and a reason of bytes that aren't plain.
 const WITHDRAWN: &str = "MCYwADAcMBoMC2V4YW1wbGUub3JnBAt7ImtleXMiOltdfYAEZ29uZQ==";

@@ -26,7 +26,9 @@ fn show<T: Absorb<O> + Drop, O: Drop, V, P: Protocol<T, V>, M: Outcome<T, V>, R:
         (drop writer.new.behind writer.new.log.items ≡ []))
         (λ _. (writer.new.desk.shown.value ≡ writer.old.desk.shown.value) ×
         (drop writer.new.behind writer.new.log.items ≡ drop writer.old.behind writer.old.log.items)) }
-    ensures rule { MatchResult result (λ _. M.then (view writer.old.desk.place) writer.old.desk.shown.value writer.new.desk.shown.value (view writer.new.desk.place)) (λ _. view writer.new.desk.place ≡ view writer.old.desk.place) }
+    ensures rule { MatchResult result
+        (λ _. M.then (view writer.old.desk.place) writer.old.desk.shown.value writer.new.desk.shown.value (view writer.new.desk.place))
+        (λ _. view writer.new.desk.place ≡ view writer.old.desk.place) }
 {
     replace_with(writer, rt, |writer, rt| writer.publish_as::<M, R>(rt))
 }

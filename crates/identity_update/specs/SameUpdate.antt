@@ -25,29 +25,34 @@ ids_decide : (a b : Id) → Decides (id_eq a b) (a ≡ b)
 ids_decide a b =
     let with_domain : List ℕ → Id = λ x. record { trust_domain = x; path = a.path } in
     let with_path : List ℕ → Id = λ x. record { trust_domain = b.trust_domain; path = x } in
-    Decides-like _ (λ e. ap with_domain e.0 ∙ ap with_path e.1) (λ e. (ap (λ (x : Id). x.trust_domain) e, ap (λ (x : Id). x.path) e)) (Decides-and _ _ (bytes_decides a.trust_domain b.trust_domain) (bytes_decides a.path b.path))
+    Decides-like _ (λ e. ap with_domain e.0 ∙ ap with_path e.1) (λ e. (ap (λ (x : Id). x.trust_domain) e, ap (λ (x : Id). x.path) e))
+    (Decides-and _ _ (bytes_decides a.trust_domain b.trust_domain) (bytes_decides a.path b.path))
 
 entries_decide : (a b : Entry) → Decides (same_entry a b) (a ≡ b)
 entries_decide a b =
     let with_id : Id → Entry = λ x. record { id = x; private_key = a.private_key; public_key = a.public_key } in
     let with_private : PlainPrivateKey → Entry = λ x. record { id = b.id; private_key = x; public_key = a.public_key } in
     let with_public : PlainPublicKey → Entry = λ x. record { id = b.id; private_key = b.private_key; public_key = x } in
-    Decides-like _ (λ e. ap with_id e.0 ∙ ap with_private e.1.0 ∙ ap with_public e.1.1) (λ e. (ap (λ (x : Entry). x.id) e, (ap (λ (x : Entry). x.private_key) e, ap (λ (x : Entry). x.public_key) e)))
+    Decides-like _ (λ e. ap with_id e.0 ∙ ap with_private e.1.0 ∙ ap with_public e.1.1)
+    (λ e. (ap (λ (x : Entry). x.id) e, (ap (λ (x : Entry). x.private_key) e, ap (λ (x : Entry). x.public_key) e)))
     (Decides-and _ _ (ids_decide a.id b.id) (Decides-and _ _ (private_keys_decide a.private_key b.private_key) (public_keys_decide a.public_key b.public_key)))
 
 bundles_decide : (a b : Bundle) → Decides (same_bundle a b) (a ≡ b)
 bundles_decide a b =
     let with_domain : List ℕ → Bundle = λ x. record { trust_domain = x; jwks = a.jwks } in
     let with_jwks : List ℕ → Bundle = λ x. record { trust_domain = b.trust_domain; jwks = x } in
-    Decides-like _ (λ e. ap with_domain e.0 ∙ ap with_jwks e.1) (λ e. (ap (λ (x : Bundle). x.trust_domain) e, ap (λ (x : Bundle). x.jwks) e)) (Decides-and _ _ (bytes_decides a.trust_domain b.trust_domain) (bytes_decides a.jwks b.jwks))
+    Decides-like _ (λ e. ap with_domain e.0 ∙ ap with_jwks e.1) (λ e. (ap (λ (x : Bundle). x.trust_domain) e, ap (λ (x : Bundle). x.jwks) e))
+    (Decides-and _ _ (bytes_decides a.trust_domain b.trust_domain) (bytes_decides a.jwks b.jwks))
 
 pub updates_decide : (a b : UpdateParts) → Decides (same_update a b) (a ≡ b)
 updates_decide a b =
     let with_entries : List Entry → UpdateParts = λ x. record { entries = x; bundles = a.bundles; reason = a.reason } in
     let with_bundles : List Bundle → UpdateParts = λ x. record { entries = b.entries; bundles = x; reason = a.reason } in
     let with_reason : Option (List ℕ) → UpdateParts = λ x. record { entries = b.entries; bundles = b.bundles; reason = x } in
-    Decides-like _ (λ e. ap with_entries e.0 ∙ ap with_bundles e.1.0 ∙ ap with_reason e.1.1) (λ e. (ap (λ (x : UpdateParts). x.entries) e, (ap (λ (x : UpdateParts). x.bundles) e, ap (λ (x : UpdateParts). x.reason) e)))
-    (Decides-and _ _ (pointwise_decides entries_decide a.entries b.entries) (Decides-and _ _ (pointwise_decides bundles_decide a.bundles b.bundles) (options_decide (pointwise nat_eq) bytes_decides a.reason b.reason)))
+    Decides-like _ (λ e. ap with_entries e.0 ∙ ap with_bundles e.1.0 ∙ ap with_reason e.1.1)
+    (λ e. (ap (λ (x : UpdateParts). x.entries) e, (ap (λ (x : UpdateParts). x.bundles) e, ap (λ (x : UpdateParts). x.reason) e)))
+    (Decides-and _ _ (pointwise_decides entries_decide a.entries b.entries)
+    (Decides-and _ _ (pointwise_decides bundles_decide a.bundles b.bundles) (options_decide (pointwise nat_eq) bytes_decides a.reason b.reason)))
 
 same_test : (s t : Bool) → (s ≡ true → t ≡ true) → (t ≡ true → s ≡ true) → s ≡ t
 same_test true true to from = refl

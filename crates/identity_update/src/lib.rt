@@ -1,4 +1,13 @@
-//! Updates: SPIFFE identities with their key pairs and trust bundles with their key sets, or the reason for which identities are withdrawn. An update is read from the Base64 of its document, or the answer names the first rule that the text breaks.
+//! Updates: SPIFFE identities with their key pairs and trust bundles with their key sets, or the reason for which
+//! identities are withdrawn. An update is read from the Base64 of its document, or the answer names the first rule that
+//! the text breaks.
+//!
+//! ```text
+//! let update = Update::withdrawal(alloc, "gone", Vec::new(alloc))?;
+//! let text = update.to_text(alloc, 64, LineEnding::LF)?;
+//! assert_eq!(text, "MAowADAAgARnb25l");
+//! assert_eq!(Update::read(alloc, text.as_bytes(), 64)?, update);
+//! ```
 #![tactic(auto)]
 
 mod assembly;

@@ -60,7 +60,11 @@ AfterKey HasT HasB (Some t) public = λ bytes. Then (ReadsTagged attributes_tag 
 -- The fields of the sequence. The version says whether there is a public key.
 abbrev pub PrivateKeyFields : {A K B T : Type 0} → PartReads A K B T → List ℕ → KeyParts A K B T → Type 0
 PrivateKeyFields reads bytes v =
-    Then ReadsVersion (λ after. Then reads.algorithm (λ after. Then reads.private_key (AfterKey reads.attributes reads.public_key v.attributes v.public_key) after v.private_key) after v.algorithm) bytes (version_of v.public_key)
+    Then ReadsVersion
+    (λ after. Then reads.algorithm
+    (λ after. Then reads.private_key (AfterKey reads.attributes reads.public_key v.attributes v.public_key) after v.private_key)
+    after v.algorithm)
+    bytes (version_of v.public_key)
 
 -- What is written of a field that may be absent.
 abbrev pub optional_field : {X : Type 0} → ℕ → (X → List ℕ) → Option X → List ℕ

@@ -164,7 +164,8 @@ pub one_fields : {A K B T : Type 0} (reads : PartReads A K B T) → PartsOne rea
 one_fields reads one s v w r r' =
     let versions = both_then ReadsVersion _ _ s (version_of v.public_key) (version_of w.public_key) version_value r r' in
     let algorithms = both_then reads.algorithm _ _ versions.rest v.algorithm w.algorithm one.algorithm.value versions.next versions.next' in
-    let keys = both_then reads.private_key (AfterKey reads.attributes reads.public_key v.attributes v.public_key) (AfterKey reads.attributes reads.public_key w.attributes w.public_key) algorithms.rest v.private_key w.private_key one.private_key.value algorithms.next algorithms.next' in
+    let keys = both_then reads.private_key (AfterKey reads.attributes reads.public_key v.attributes v.public_key)
+    (AfterKey reads.attributes reads.public_key w.attributes w.public_key) algorithms.rest v.private_key w.private_key one.private_key.value algorithms.next algorithms.next' in
     let version = one_version versions.front (version_of v.public_key) (version_of w.public_key) versions.reads versions.reads' in
     let tails = one_tail reads.attributes reads.public_key one.attributes one.public_key keys.rest v.attributes w.attributes v.public_key w.public_key version keys.next keys.next' in
     same_parts v w (one.algorithm.one algorithms.front v.algorithm w.algorithm algorithms.reads algorithms.reads') (one.private_key.one keys.front v.private_key w.private_key keys.reads keys.reads') tails.0 tails.1

@@ -15,5 +15,9 @@ same_private_key a b =
 
 pub private_keys_decide : (a b : PlainPrivateKey) → Decides (same_private_key a b) (a ≡ b)
 private_keys_decide a b =
-    Decides-like _ (λ e. same_parts a b e.0 e.1.0 e.1.1.0 e.1.1.1) (λ e. (ap (λ (x : PlainPrivateKey). x.algorithm) e, (ap (λ (x : PlainPrivateKey). x.private_key) e, (ap (λ (x : PlainPrivateKey). x.attributes) e, ap (λ (x : PlainPrivateKey). x.public_key) e))))
-    (Decides-and _ _ (algorithms_decide a.algorithm b.algorithm) (Decides-and _ _ (bytes_decides a.private_key b.private_key) (Decides-and _ _ (options_decide (pointwise nat_eq) bytes_decides a.attributes b.attributes) (options_decide same_bits bits_decide a.public_key b.public_key))))
+    Decides-like _ (λ e. same_parts a b e.0 e.1.0 e.1.1.0 e.1.1.1)
+    (λ e. (ap (λ (x : PlainPrivateKey). x.algorithm) e, (ap (λ (x : PlainPrivateKey). x.private_key) e, (ap (λ (x : PlainPrivateKey). x.attributes) e, ap (λ (x : PlainPrivateKey). x.public_key) e))))
+    (Decides-and _ _ (algorithms_decide a.algorithm b.algorithm)
+    (Decides-and _ _ (bytes_decides a.private_key b.private_key)
+    (Decides-and _ _ (options_decide (pointwise nat_eq) bytes_decides a.attributes b.attributes)
+    (options_decide same_bits bits_decide a.public_key b.public_key))))

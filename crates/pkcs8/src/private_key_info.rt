@@ -100,7 +100,12 @@ impl<
     PubKey: DecodeValue<'a>,
     Attrs: DecodeValue<'a>,
 > DecodeValue<'a> for PrivateKeyInfo<Params, Key, PubKey, Attrs> {
-    ghost HasContent = { PrivateKeyContent (record { algorithm = ReadsAlgorithmIdentifier Params.Reads; private_key = ReadsTagged Key.tag Key.HasContent; attributes = Attrs.HasContent; public_key = PubKey.HasContent }) };
+    ghost HasContent = { PrivateKeyContent (record {
+      algorithm = ReadsAlgorithmIdentifier Params.Reads;
+      private_key = ReadsTagged Key.tag Key.HasContent;
+      attributes = Attrs.HasContent;
+      public_key = PubKey.HasContent;
+    }) };
 
     fn decode_value(cursor: &mut Cursor<'a>) -> der_small::Result<Self> {
         let mut at = Cursor::new(cursor.rest());

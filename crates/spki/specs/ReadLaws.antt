@@ -96,8 +96,10 @@ same_fields : (p q : PlainAlgorithm) → IsAlgorithm p → IsAlgorithm q →
     encode oid_tag p.oid ++ optional_bytes der_of p.parameters ≡ encode oid_tag q.oid ++ optional_bytes der_of q.parameters →
     p ≡ q
 same_fields p q lp lq fp fq e =
-    let same = same_value 6 p.oid (optional_bytes der_of p.parameters) 6 q.oid (optional_bytes der_of q.parameters) tag_6 (front_fits (encode oid_tag p.oid) (optional_bytes der_of p.parameters) fp) tag_6 (front_fits (encode oid_tag q.oid) (optional_bytes der_of q.parameters) fq) e in
-    let parameters = same_parameters p.parameters q.parameters lp.parameters lq.parameters (rest_fits (encode oid_tag p.oid) (optional_bytes der_of p.parameters) fp) (rest_fits (encode oid_tag q.oid) (optional_bytes der_of q.parameters) fq) same.rests in
+    let same = same_value 6 p.oid (optional_bytes der_of p.parameters) 6 q.oid (optional_bytes der_of q.parameters)
+    tag_6 (front_fits (encode oid_tag p.oid) (optional_bytes der_of p.parameters) fp) tag_6 (front_fits (encode oid_tag q.oid) (optional_bytes der_of q.parameters) fq) e in
+    let parameters = same_parameters p.parameters q.parameters lp.parameters lq.parameters
+    (rest_fits (encode oid_tag p.oid) (optional_bytes der_of p.parameters) fp) (rest_fits (encode oid_tag q.oid) (optional_bytes der_of q.parameters) fq) same.rests in
     let with_oid : List ℕ → PlainAlgorithm = λ o. record { oid = o; parameters = p.parameters } in
     let with_parameters : Option PlainAny → PlainAlgorithm = λ o. record { oid = q.oid; parameters = o } in
     ap with_oid same.contents ∙ ap with_parameters parameters
@@ -124,7 +126,8 @@ same_keys p q lp lq fp fq e =
     let fit_q = front_fits (encode sequence_tag a_q) key_q content_q in
     let parts = same_value 48 a_p key_p 48 a_q key_q tag_48 fit_p tag_48 fit_q whole.contents in
     let algorithm = same_fields p.algorithm q.algorithm lp.algorithm lq.algorithm (content_fits sequence_tag a_p fit_p) (content_fits sequence_tag a_q fit_q) parts.contents in
-    let key = same_value 3 (p.key.unused_bits ∷ p.key.octets) [] 3 (q.key.unused_bits ∷ q.key.octets) [] tag_3 (rest_fits (encode sequence_tag a_p) key_p content_p) tag_3 (rest_fits (encode sequence_tag a_q) key_q content_q) (ap (λ (x : List ℕ). x ++ []) parts.rests) in
+    let key = same_value 3 (p.key.unused_bits ∷ p.key.octets) [] 3 (q.key.unused_bits ∷ q.key.octets) []
+    tag_3 (rest_fits (encode sequence_tag a_p) key_p content_p) tag_3 (rest_fits (encode sequence_tag a_q) key_q content_q) (ap (λ (x : List ℕ). x ++ []) parts.rests) in
     let bits : p.key.unused_bits ∷ p.key.octets ≡ q.key.unused_bits ∷ q.key.octets = key.contents in
     let unused : p.key.unused_bits ≡ q.key.unused_bits = ap first bits in
     let octets : p.key.octets ≡ q.key.octets = ap after_first bits in

@@ -43,22 +43,26 @@ pub any_decides : (a b : PlainAny) → Decides (same_any a b) (a ≡ b)
 any_decides a b =
     let with_tag : ℕ → PlainAny = λ x. record { tag = x; content = a.content } in
     let with_content : List ℕ → PlainAny = λ x. record { tag = b.tag; content = x } in
-    Decides-like _ (λ e. ap with_tag e.0 ∙ ap with_content e.1) (λ e. (ap (λ (x : PlainAny). x.tag) e, ap (λ (x : PlainAny). x.content) e)) (Decides-and _ _ (Decides-eqb a.tag b.tag) (bytes_decides a.content b.content))
+    Decides-like _ (λ e. ap with_tag e.0 ∙ ap with_content e.1) (λ e. (ap (λ (x : PlainAny). x.tag) e, ap (λ (x : PlainAny). x.content) e))
+    (Decides-and _ _ (Decides-eqb a.tag b.tag) (bytes_decides a.content b.content))
 
 pub bits_decide : (a b : PlainBits) → Decides (same_bits a b) (a ≡ b)
 bits_decide a b =
     let with_unused : ℕ → PlainBits = λ x. record { unused_bits = x; octets = a.octets } in
     let with_octets : List ℕ → PlainBits = λ x. record { unused_bits = b.unused_bits; octets = x } in
-    Decides-like _ (λ e. ap with_unused e.0 ∙ ap with_octets e.1) (λ e. (ap (λ (x : PlainBits). x.unused_bits) e, ap (λ (x : PlainBits). x.octets) e)) (Decides-and _ _ (Decides-eqb a.unused_bits b.unused_bits) (bytes_decides a.octets b.octets))
+    Decides-like _ (λ e. ap with_unused e.0 ∙ ap with_octets e.1) (λ e. (ap (λ (x : PlainBits). x.unused_bits) e, ap (λ (x : PlainBits). x.octets) e))
+    (Decides-and _ _ (Decides-eqb a.unused_bits b.unused_bits) (bytes_decides a.octets b.octets))
 
 pub algorithms_decide : (a b : PlainAlgorithm) → Decides (same_algorithm a b) (a ≡ b)
 algorithms_decide a b =
     let with_oid : List ℕ → PlainAlgorithm = λ x. record { oid = x; parameters = a.parameters } in
     let with_parameters : Option PlainAny → PlainAlgorithm = λ x. record { oid = b.oid; parameters = x } in
-    Decides-like _ (λ e. ap with_oid e.0 ∙ ap with_parameters e.1) (λ e. (ap (λ (x : PlainAlgorithm). x.oid) e, ap (λ (x : PlainAlgorithm). x.parameters) e)) (Decides-and _ _ (bytes_decides a.oid b.oid) (options_decide same_any any_decides a.parameters b.parameters))
+    Decides-like _ (λ e. ap with_oid e.0 ∙ ap with_parameters e.1) (λ e. (ap (λ (x : PlainAlgorithm). x.oid) e, ap (λ (x : PlainAlgorithm). x.parameters) e))
+    (Decides-and _ _ (bytes_decides a.oid b.oid) (options_decide same_any any_decides a.parameters b.parameters))
 
 pub public_keys_decide : (a b : PlainPublicKey) → Decides (same_public_key a b) (a ≡ b)
 public_keys_decide a b =
     let with_algorithm : PlainAlgorithm → PlainPublicKey = λ x. record { algorithm = x; key = a.key } in
     let with_key : PlainBits → PlainPublicKey = λ x. record { algorithm = b.algorithm; key = x } in
-    Decides-like _ (λ e. ap with_algorithm e.0 ∙ ap with_key e.1) (λ e. (ap (λ (x : PlainPublicKey). x.algorithm) e, ap (λ (x : PlainPublicKey). x.key) e)) (Decides-and _ _ (algorithms_decide a.algorithm b.algorithm) (bits_decide a.key b.key))
+    Decides-like _ (λ e. ap with_algorithm e.0 ∙ ap with_key e.1) (λ e. (ap (λ (x : PlainPublicKey). x.algorithm) e, ap (λ (x : PlainPublicKey). x.key) e))
+    (Decides-and _ _ (algorithms_decide a.algorithm b.algorithm) (bits_decide a.key b.key))

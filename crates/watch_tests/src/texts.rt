@@ -8,8 +8,11 @@ use std::sync::Wait;
 use std::thread::Threads;
 
 // An update with its line: one identity and one bundle, the sample of the README, of 207 bytes.
-const GRANTED: &str =
-    "update 207\nMIGWMHYwdAwWc3BpZmZlOi8vZXhhbXBsZS5vcmcvYTAuAgEAMAUGAytlcAQiBCAR\nERERERERERERERERERERERERERERERERERERERERETAqMAUGAytlcAMhAE0pFn8/\nGRKm9636KToFGhXAXsZ7jxcmexxVUNzoU70NMBwwGgwLZXhhbXBsZS5vcmcEC3si\na2V5cyI6W119\n";
+const GRANTED: &str = "update 207\n\
+     MIGWMHYwdAwWc3BpZmZlOi8vZXhhbXBsZS5vcmcvYTAuAgEAMAUGAytlcAQiBCAR\n\
+     ERERERERERERERERERERERERERERERERERERERERETAqMAUGAytlcAMhAE0pFn8/\n\
+     GRKm9636KToFGhXAXsZ7jxcmexxVUNzoU70NMBwwGgwLZXhhbXBsZS5vcmcEC3si\n\
+     a2V5cyI6W119\n";
 
 const ANSWERS: &str =
     "accepted 1\nworker 0\nsvid 1 spiffe://example.org/a\nbundle 1 example.org 0\nworker 1\nsvid 1 spiffe://example.org/a\nbundle 1 example.org 0\n";

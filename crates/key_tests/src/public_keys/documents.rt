@@ -109,7 +109,11 @@ fn keys_in_all_their_forms(rt: HostRuntime) -> Result<(), Fail> {
             "aQGz2X+nW1aTUSzBMXhwPqM4FLIOiwat2+v5vj7QqB0=",
         ),
         (
-            "MIIBIjANBgkqhkiG9w0BAQEFAAOCAQ8AMIIBCgKCAQEAsF3CeUfnbZzaU3ZtqcfdgqGAIzH4vc9Ajh+85D4NLwCYAENFIGR8NozzWDqZYl3ABo8k73U5YAS0x4sLqAjwHvBOWJ6lmskSOKt8/zGKtBIdVpnfy+NSK0dDEfZaoQ1lhrMx2KGEtTQXzm6IMZLD1o9/mNAelTukXDfuCN1C5+ZWS/R2dh8lZZC6XzXwwE3ik9IJGz7yhSkpPqppwN6fO5c+GJVbml3d3Uqp2MJu4Lv2MH82KdgEEkzCBg5Z721pZv8/cLMeUCvp4XUG940AhwMFgh2prREc8Hjxa2Z8hejzclTQG0gcf73ntuaJ4PJjmSeungtgbBphisSKIMohKQIDAQAB",
+            "MIIBIjANBgkqhkiG9w0BAQEFAAOCAQ8AMIIBCgKCAQEAsF3CeUfnbZzaU3ZtqcfdgqGAIzH4vc9Ajh+85D4NLwCYAENFIGR8N\
+             ozzWDqZYl3ABo8k73U5YAS0x4sLqAjwHvBOWJ6lmskSOKt8/zGKtBIdVpnfy+NSK0dDEfZaoQ1lhrMx2KGEtTQXzm6IMZLD1o\
+             9/mNAelTukXDfuCN1C5+ZWS/R2dh8lZZC6XzXwwE3ik9IJGz7yhSkpPqppwN6fO5c+GJVbml3d3Uqp2MJu4Lv2MH82KdgEEkz\
+             CBg5Z721pZv8/cLMeUCvp4XUG940AhwMFgh2prREc8Hjxa2Z8hejzclTQG0gcf73ntuaJ4PJjmSeungtgbBphisSKIMohKQID\
+             AQAB",
             "BwOpJMTIR+sqkGfd1bU+db8Q01VfI5h33qqACPe6h1E=",
         ),
     ];
