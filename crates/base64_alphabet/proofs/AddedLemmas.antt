@@ -77,7 +77,7 @@ low_all (negsuc n) lo hi =
     let b : bit_and 65535 (65536 - suc n) ≡ 65536 - suc n = numeral_and 65534 (65536 - suc n) refl ∙ omega arith in
     ap (λ k. low_byte (to_z w16 k)) b ∙ low_to_z (65536 - suc n) (omega arith) ∙ omega arith
 
-masked : (p : Bool) (v : ℤ) → negsuc 32767 ≤ℤ v → v ≤ℤ pos 65535 → low_byte (int_bit_and w16 (if p then negsuc 0 else pos 0) v) ≡ (if p then low_byte v else 0)
+pub masked : (p : Bool) (v : ℤ) → negsuc 32767 ≤ℤ v → v ≤ℤ pos 65535 → low_byte (int_bit_and w16 (if p then negsuc 0 else pos 0) v) ≡ (if p then low_byte v else 0)
 masked true v lo hi = low_all v lo hi
 masked false v lo hi = refl
 

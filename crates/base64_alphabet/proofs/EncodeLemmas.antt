@@ -15,7 +15,7 @@ characters_three end table (a ∷ []) ys h = absurd (omega arith)
 characters_three end table (a ∷ b ∷ []) ys h = absurd (omega arith)
 characters_three end table (a ∷ b ∷ c ∷ d ∷ xs) ys h = absurd (omega arith)
 
-characters_none : (end : End) (table : List ℕ) → characters end table [] ≡ []
+pub characters_none : (end : End) (table : List ℕ) → characters end table [] ≡ []
 unfolding characters
 characters_none end table = refl
 

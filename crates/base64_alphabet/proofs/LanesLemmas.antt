@@ -20,7 +20,7 @@ use Rattle.base64_alphabet.proofs.AddedLemmas.{added_between, low_add}
 use Rattle.base64_alphabet.proofs.PassesLemmas.{sum_at, same_ℤ_is, holds_below_at}
 
 -- all ones or 0
-abbrev mask_of : Bool → ℕ
+abbrev pub mask_of : Bool → ℕ
 mask_of b = cond b 255 0
 
 chosen : (p q : Bool) (y s : ℕ) → cond (top 7 (bit_and (mask_of p) (mask_of q))) y s ≡ (if p && q then y else s)
@@ -67,7 +67,7 @@ sum_from-next d [] i e x lt = absurd (omega arith)
 sum_from-next d (s ∷ steps) zero e x lt = refl
 sum_from-next d (s ∷ steps) (suc i) e x lt = sum_from-next (d +ℤ added_by s x) steps i e x (omega arith)
 
-next_lanes : (f g h : ℕ → ℤ) → ((x : ℕ) → h x ≡ f x +ℤ g x) → (cs : List ℕ)
+pub next_lanes : (f g h : ℕ → ℤ) → ((x : ℕ) → h x ≡ f x +ℤ g x) → (cs : List ℕ)
     → zip2 (λ a b. (a + b) % 256) (map (λ x. low_byte (f x)) cs) (map (λ x. low_byte (g x)) cs) ≡ map (λ x. low_byte (h x)) cs
 next_lanes f g h is [] = refl
 next_lanes f g h is (x ∷ cs) = (λ i. (low_add (f x) (g x) ∙ sym (ap low_byte (is x))) i ∷ next_lanes f g h is cs i)

@@ -7,3 +7,6 @@ pub mod AddedLemmas
 pub mod LanesLemmas
 pub mod GroupedLemmas
 pub mod PartsLemmas
+pub mod DigitsLemmas
+pub mod TurnedLemmas
+pub mod EncodePartsLemmas

@@ -1,5 +1,5 @@
 -- The passes as data.
-use Rattle.std.specs.Prelude.{ℕ, Bool, true, ◌&&◌, List, [], ◌∷◌, ℤ, pos, negsuc, ◌+ℤ◌, ◌-ℤ◌, int_le, slice_index}
+use Rattle.std.specs.Prelude.{ℕ, Bool, true, false, ◌&&◌, List, [], ◌∷◌, ℤ, pos, negsuc, ◌+ℤ◌, ◌-ℤ◌, int_le, slice_index}
 use Rattle.std.specs.Int.{int_bit_and, int_shr}
 use Rattle.base64_alphabet.specs.Table.{place_of, holds_below}
 use mir.Syntax.{w16}
@@ -79,3 +79,13 @@ encodes_at base steps table s = turns_fit (pos s +ℤ pos base) steps (pos s)
 
 abbrev pub encodes : ℕ → List EncodeStep → List ℕ → Bool
 encodes base steps table = holds_below (encodes_at base steps table) 64
+
+-- the pass reads the place alone, and not the sum
+abbrev pub reads_place : EncodeStep → Bool
+reads_place (Apply t k) = false
+reads_place (Diff t k) = true
+
+-- each pass does
+abbrev pub read_places : List EncodeStep → Bool
+read_places [] = true
+read_places (e ∷ steps) = reads_place e && read_places steps

@@ -6,8 +6,8 @@ ghost use Rattle.base64_alphabet.specs.Table.{all_in};
 ghost use Rattle.base64_alphabet.specs.Encoding.{bytes_of_blocks, characters};
 
 use crate::alphabet::Alphabet;
-use crate::lanes;
 use crate::steps::Steps;
+use crate::{encode_lanes, lanes};
 use std::sync::ledger::Ledger;
 
 /// Converts whole blocks of characters, and answers whether each character is in the table. The bytes are
@@ -36,8 +36,9 @@ pub fn encode_blocks<E: Alphabet, L: Ledger>(src: &[u8], dst: &mut [u8], steps: 
     ensures written { dst.new ≡ characters E.end E.table src.now ++ drop (4 * (length src.now / 3)) dst.old }
     ensures steps { steps.new ≡ steps.old + 4 * (length src.now / 3) }
 {
-    for group in 0..src.len() / 3 {
-        let from = &src[3 * group..3 * group + 3];
-        E::encode_3bytes_counted(from, &mut dst[4 * group..4 * group + 4], steps);
+    if encode_lanes::passes_read_places::<E>() {
+        encode_lanes::encode_run::<E, L>(src, dst, steps);
+    } else {
+        encode_lanes::encode_each::<E, L>(src, dst, steps);
     }
 }

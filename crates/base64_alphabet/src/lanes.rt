@@ -151,7 +151,7 @@ fn value_lanes(value: u8, offset: i16, c: u8x32) -> u8x32
 }
 
 #[inline(always)]
-fn low_byte(offset: i16) -> u8
+pub(crate) fn low_byte(offset: i16) -> u8
     ensures { result ≡ low_byte offset }
 {
     (offset & 255) as u8

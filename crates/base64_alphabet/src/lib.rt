@@ -16,6 +16,7 @@
 
 mod alphabet;
 mod blocks;
+mod encode_lanes;
 mod groups;
 pub mod lanes;
 mod steps;

@@ -1,4 +1,5 @@
-//! Decoding in lanes: lengths around the 32 characters of a part, and a bad character in each lane.
+//! Decoding and encoding in lanes: lengths around the 32 characters of a part, and a bad character in each
+//! lane.
 
 ghost use Rattle.std.specs.Prelude.{◌≡◌, ◌<◌, List, ℕ, length, true, false};
 ghost use Rattle.base64_alphabet.specs.Standard.{standard};
@@ -13,13 +14,24 @@ use std::alloc::Global;
 use std::marker::Brand;
 use std::sync::ledger::{Blank, Ledger};
 
-// Whether the encodings of the fronts of the bytes are decoded to them.
+// Whether the encodings of the fronts of the bytes begin with their groups one by one, and are decoded to
+// the fronts.
 fn reads_back<E: Encoding>(alloc: Global, bytes: &[u8; 130]) -> bool {
+    let mut groups = [0u8; 172];
+    for group in 0..43 {
+        E::encode_3bytes(
+            &bytes[3 * group..3 * group + 3],
+            &mut groups[4 * group..4 * group + 4],
+        );
+    }
     for n in 0..131 {
         let front = &bytes[..n];
         let Ok(text) = E::encode_string(alloc, front) else {
             return false;
         };
+        if !text.as_bytes().starts_with(&groups[..4 * (n / 3)]) {
+            return false;
+        }
         let mut space = [0u8; 176];
         let mut copy = [0u8; 176];
         let len = text.len().min(176);
@@ -33,7 +45,7 @@ fn reads_back<E: Encoding>(alloc: Global, bytes: &[u8; 130]) -> bool {
     true
 }
 
-// The encoder goes by single groups, and its texts are those of python in another test.
+// The texts of single groups are those of python in another test.
 #[test]
 fn reads_back_each_length(rt: HostRuntime) {
     let mut bytes = [0u8; 130];

@@ -1,6 +1,6 @@
 use Rattle.std.proofs.Common.{◌≡◌, ◌+◌, ◌*◌, ◌++◌, drop, take}
 use Rattle.base64_alphabet.specs.Encoding.{characters}
-use Rattle.base64_alphabet.proofs.blocks.encode_blocks.Given as goal
+use Rattle.base64_alphabet.proofs.encode_lanes.encode_each.Given as goal
 
 abbrev pub invariant-loop-group : goal.invariant-loop-group
 invariant-loop-group g l = record {

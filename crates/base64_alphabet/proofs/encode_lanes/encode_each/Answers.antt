@@ -2,7 +2,7 @@ use Rattle.std.proofs.Common.{◌≡◌, ℕ, ◌+◌, ◌*◌, List, [], drop, 
 use Rattle.std.proofs.lemmas.Grind.{common_steps}
 use Rattle.std.proofs.lemmas.List.{drop_all}
 use Rattle.base64_alphabet.proofs.EncodeLemmas.{encoded_step, rest_step, encoded_end}
-use Rattle.base64_alphabet.proofs.blocks.encode_blocks.Goals as goal
+use Rattle.base64_alphabet.proofs.encode_lanes.encode_each.Goals as goal
 
 pub loop-group-preserved : goal.loop-group-preserved
 loop-group-preserved g c =

@@ -1,0 +1,11 @@
+use Rattle.std.proofs.Common.{◌≡◌, of_z, to_z, arith, ap, ◌∙◌}
+use Rattle.std.proofs.lemmas.Int.{ints, to_z-of_z}
+use mir.Syntax.{w16}
+use Rattle.base64_alphabet.specs.Lanes.{low_byte}
+use Rattle.base64_alphabet.proofs.TurnedLemmas.{above_lanes}
+use Rattle.base64_alphabet.proofs.encode_lanes.above_lanes.Goals as goal
+
+pub returns : goal.returns
+returns c =
+    let e : c.low_byte.result ≡ low_byte c.args.offset = c.low_byte.ensures ∙ ap low_byte (to_z-of_z w16 c.args.offset c.ranges.offset) in
+    rw e (above_lanes 32 c.args.bound c.args.offset c.args.places (omega arith) (omega (arith, ints)) (omega (arith, ints)) c.requires.len c.requires.below)
