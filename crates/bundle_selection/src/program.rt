@@ -1,6 +1,6 @@
 //! The program's edge: its words, its standard streams, and what it says to a person.
-ghost use Rattle.std.specs.Prelude.{◌≤◌, ◌↔◌, IsNone};
-ghost use Rattle.identity_commands.specs.Status.{status_number};
+ghost use Rattle.std.specs.Prelude.{◌≡◌, option_map};
+ghost use Rattle.bundle_selection.specs.Notice.{selection_notice};
 
 use crate::selecting::select;
 use identity_commands::Status;
@@ -11,7 +11,7 @@ use std::process::ExitCode;
 
 // What a person at the terminal is told, none where the output says it.
 fn notice(status: Status) -> Option<&'static str>
-    ensures { IsNone result ↔ (status_number status ≤ 1) }
+    ensures { option_map (λ text. text.now) result ≡ selection_notice status }
 {
     match status {
         Status::Usage => Some("usage: bundle_keys < DOCUMENT"),

@@ -30,22 +30,25 @@ pub(crate) fn refused(alloc: Global, error: &UpdateError) -> Result<Answer, Allo
     })
 }
 
-fn answer_to(alloc: Global, width: usize, text: &[u8]) -> Result<Answer, AllocError>
-    ensures { IfOk result (λ a. Answers width text.now a.printed.items a.status) }
+// The text's room is given back before the report is made.
+fn answer_to(alloc: Global, width: usize, text: Vec<u8>) -> Result<Answer, AllocError>
+    ensures { IfOk result (λ a. Answers width text.items a.printed.items a.status) }
 {
-    match Update::read(alloc, text, width) {
-        Ok(update) => Ok(Answer {
-            printed: report_text(
-                alloc,
-                1,
-                update.reason(),
-                update.entries(),
-                update.bundle_set(),
-            )?,
-            status: Status::Done,
-        }),
-        Err(error) => refused(alloc, &error),
-    }
+    let update = match Update::read(alloc, &text, width) {
+        Ok(update) => update,
+        Err(error) => return refused(alloc, &error),
+    };
+    drop(text);
+    Ok(Answer {
+        printed: report_text(
+            alloc,
+            1,
+            update.reason(),
+            update.entries(),
+            update.bundle_set(),
+        )?,
+        status: Status::Done,
+    })
 }
 
 /// Reads the text of an update to its end, and writes its report or the line of its refusal. It takes
@@ -62,7 +65,7 @@ pub fn report<S: Source, K: Sink>(alloc: Global, width: usize, input: &mut S, ou
         Ok(text) => text,
         Err(error) => return Status::from(error),
     };
-    let Ok(answer) = answer_to(alloc, width, &text) else {
+    let Ok(answer) = answer_to(alloc, width, text) else {
         return Status::OutOfMemory;
     };
     match write_all(out, &answer.printed) {

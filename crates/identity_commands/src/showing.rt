@@ -38,23 +38,25 @@ pub fn chosen<'a>(seen: &'a Snapshot, latest: &'a Snapshot, revision: u64) -> &'
     }
 }
 
-// The report of the state that a source with one reader has after its first update, as the reader gives it.
+// The report of the state that a source with one reader has after its first update, as the reader gives it. The text's
+// room is given back before the report is made.
 fn applied<R: Wait>(
     rt: &R,
     alloc: Global,
     width: usize,
-    text: &[u8],
+    text: Vec<u8>,
     source: &mut IdentitySource,
     reader: &mut IdentityReader,
 ) -> Result<Answer, AllocError>
     requires opened { source.old.list ≡ opening 0 ∷ [] }
     requires fresh { IsFresh source.old reader.old }
-    ensures { IfOk result (λ a. Answers width text.now a.printed.items a.status) }
+    ensures { IfOk result (λ a. Answers width text.items a.printed.items a.status) }
 {
-    let receipt = match source.apply(rt, text, width) {
+    let receipt = match source.apply(rt, &text, width) {
         Ok(receipt) => receipt,
         Err(error) => return refused(alloc, &error),
     };
+    drop(text);
     states_are_told_by_revision();
     let revision = receipt.revision();
     reader.told(receipt);
@@ -70,9 +72,9 @@ fn answer_by_source<R: Wait>(
     rt: &R,
     alloc: Global,
     width: usize,
-    text: &[u8],
+    text: Vec<u8>,
 ) -> Result<Answer, AllocError>
-    ensures { IfOk result (λ a. Answers width text.now a.printed.items a.status) }
+    ensures { IfOk result (λ a. Answers width text.items a.printed.items a.status) }
 {
     let Ok((mut source, mut readers)) = IdentitySource::open(rt, alloc, 0, 1) else {
         return Err(AllocError);
@@ -106,7 +108,7 @@ pub fn show<R: Wait, S: Source, K: Sink>(
         Ok(text) => text,
         Err(error) => return Status::from(error),
     };
-    let Ok(answer) = answer_by_source(rt, alloc, width, &text) else {
+    let Ok(answer) = answer_by_source(rt, alloc, width, text) else {
         return Status::OutOfMemory;
     };
     match write_all(out, &answer.printed) {

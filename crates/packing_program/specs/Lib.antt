@@ -3,3 +3,4 @@ pub mod Words
 pub mod Views
 pub mod Refusal
 pub mod Run
+pub mod Notice

@@ -1,6 +1,6 @@
 //! The program's edge: its words, its files and standard output, and what it says to a person.
-ghost use Rattle.std.specs.Prelude.{◌≤◌, ◌↔◌, IsNone};
-ghost use Rattle.identity_commands.specs.Status.{status_number};
+ghost use Rattle.std.specs.Prelude.{◌≡◌, option_map};
+ghost use Rattle.packing_program.specs.Notice.{packing_notice};
 
 use crate::running::run;
 use identity_commands::Status;
@@ -11,7 +11,7 @@ use std::process::ExitCode;
 
 // What a person at the terminal is told, none where the output says it.
 fn notice(status: Status) -> Option<&'static str>
-    ensures { IsNone result ↔ (status_number status ≤ 1) }
+    ensures { option_map (λ text. text.now) result ≡ packing_notice status }
 {
     match status {
         Status::Usage => Some("usage: identity_pack pack MANIFEST WIDTH"),

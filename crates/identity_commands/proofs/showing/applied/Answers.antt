@@ -1,4 +1,4 @@
-use Rattle.std.proofs.Common.{◌≡◌, ◌∙◌}
+use Rattle.std.proofs.Common.{◌≡◌, ◌∙◌, sym}
 use Rattle.identity_source.specs.NamedList.{appended}
 use Rattle.identity_source.specs.State.{PlainState}
 use Rattle.identity_commands.proofs.Applied.{chosen_is, is_reported, receipt_ends, seen_is}
@@ -14,4 +14,5 @@ returns g c =
     (λ at. seen_is c.states_are_told_by_revision.ensures.revision c.args.source.now c.in-Ok.receipt p.state c.current.result.now c.args.reader.now.list c.requires.opened is
     c.requires.fresh.list c.told.ensures.list c.current.follows.holds-at-none c.revision-revision.ensures.history (at ∙ c.revision-revision.ensures.last))
     (c.states_are_told_by_revision.ensures.last c.apply.new.self.list p.state c.latest.result.now (receipt_ends c.args.source.now c.apply.new.self p.state p.list) c.latest.ensures.last) in
-    is_reported c.args.width c.args.text.now c.in_ok-state_text.field-0.items c.args.source.now p.state c.chosen-state.result.now c.requires.opened p.next same c.in_ok-state_text.ensures
+    is_reported c.args.width c.args.text.items c.in_ok-state_text.field-0.items c.args.source.now p.state c.chosen-state.result.now c.requires.opened
+    (rw (sym c.deref.ensures.value) p.next) same c.in_ok-state_text.ensures
