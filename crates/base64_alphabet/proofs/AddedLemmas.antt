@@ -1,12 +1,12 @@
 -- The low bytes of what the passes add.
-use Rattle.std.proofs.Common.{◌≡◌, ℕ, suc, ◌+◌, ◌-◌, ◌*◌, ◌/◌, ◌%◌, ◌<◌, ◌≤◌, Bool, true, false, ◌&&◌, ℤ, pos, negsuc, ◌+ℤ◌, ◌-ℤ◌, ◌≤ℤ◌, arith, refl, ap, sym, ◌∙◌, bit_and, to_z, of_z, nat_le, nat_lt, if◌then◌else◌, inl, inr}
+use Rattle.std.proofs.Common.{◌≡◌, ℕ, suc, ◌+◌, ◌-◌, ◌/◌, ◌%◌, ◌<◌, ◌≤◌, Bool, true, false, ◌&&◌, ℤ, pos, negsuc, ◌+ℤ◌, ◌-ℤ◌, ◌≤ℤ◌, arith, refl, ap, ◌∙◌, bit_and, to_z, nat_le, nat_lt, if◌then◌else◌, inl, inr}
 use Rattle.std.proofs.lemmas.Bool.{cases_Bool, leb-true, leb-false, le-ltb}
 use Rattle.std.proofs.lemmas.Grind.{numeral_and}
 use Rattle.std.proofs.lemmas.Int.{ints}
 use Rattle.std.proofs.lemmas.Nat.{and_shr, and_le_l, and_le_r}
 use Rattle.std.specs.Int.{int_bit_and, int_shr}
 use mir.Syntax.{w16}
-use Rattle.base64_alphabet.specs.Passes.{between, common_sign}
+use Rattle.base64_alphabet.specs.Passes.{between}
 use Rattle.base64_alphabet.specs.Lanes.{low_byte}
 
 pub low_add : (x y : ℤ) → (low_byte x + low_byte y) % 256 ≡ low_byte (x +ℤ y)

@@ -1,5 +1,5 @@
 -- Eight groups in lanes of bytes.
-use Rattle.std.proofs.Common.{◌≡◌, ℕ, ◌+◌, ◌*◌, ◌/◌, ◌%◌, ◌<◌, Bool, true, false, ltb, ◌&&◌, List, [], ◌∷◌, ◌++◌, length, arith, refl, ap, sym, ◌∙◌, ℤ, pos, map, get_or, of_z}
+use Rattle.std.proofs.Common.{◌≡◌, ℕ, ◌+◌, ◌*◌, ◌/◌, ◌%◌, ◌<◌, true, ltb, List, [], ◌∷◌, ◌++◌, length, arith, refl, ap, ◌∙◌, ℤ, pos, map, get_or, of_z}
 use Rattle.std.proofs.lemmas.Bool.{and_parts, ltb-true}
 use Rattle.std.proofs.lemmas.Simd.{pick_l_left, pick_l_whole}
 use Rattle.std.specs.Simd.Lanes.{all_below}

@@ -1,5 +1,5 @@
 -- Vectors of bytes, lane by lane.
-use Rattle.std.proofs.Common.{◌≡◌, ℕ, zero, suc, ◌+◌, ◌-◌, ◌*◌, ◌/◌, ◌%◌, ◌^◌, ◌<◌, ◌≤◌, Bool, true, false, cond, leb, ltb, nat_le, nat_lt, nat_eq, ◌&&◌, List, [], ◌∷◌, length, map, replicate, arith, refl, ap, sym, ◌∙◌, bit_and, if◌then◌else◌, slice_index, take, get_or, ℤ, pos, negsuc, ◌+ℤ◌, ◌≤ℤ◌, to_z, inl, inr}
+use Rattle.std.proofs.Common.{◌≡◌, ℕ, zero, suc, ◌+◌, ◌*◌, ◌%◌, ◌^◌, ◌<◌, ◌≤◌, Bool, true, false, cond, leb, ltb, nat_le, nat_eq, ◌&&◌, List, [], ◌∷◌, length, map, replicate, arith, refl, ap, sym, ◌∙◌, bit_and, if◌then◌else◌, slice_index, take, get_or, ℤ, pos, negsuc, ◌+ℤ◌, ◌≤ℤ◌, to_z, inl, inr}
 use Rattle.std.proofs.lemmas.Bool.{cases_Bool, ltb-true, ltb-false, lt-ltb, le-ltb, ne_eqb}
 use Rattle.std.proofs.lemmas.Int.{ints}
 use Rattle.std.proofs.lemmas.List.{take_all, length-map}

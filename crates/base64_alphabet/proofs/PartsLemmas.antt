@@ -1,7 +1,6 @@
 -- Lists of characters by parts of 32.
-use Rattle.std.proofs.Common.{◌≡◌, ℕ, zero, suc, ◌+◌, ◌-◌, ◌*◌, ◌/◌, ◌%◌, ◌≤◌, ◌<◌, Bool, true, false, ◌&&◌, ltb, List, [], ◌∷◌, ◌++◌, ℤ, pos, negsuc, length, slice_index, map, take, drop, arith, refl, if◌then◌else◌, ap, sym, ◌∙◌, append_assoc, append-nil, length-drop, to_z, of_z, inl, inr}
+use Rattle.std.proofs.Common.{◌≡◌, ℕ, zero, suc, ◌+◌, ◌-◌, ◌*◌, ◌/◌, ◌%◌, ◌≤◌, Bool, true, false, ◌&&◌, ltb, List, [], ◌∷◌, ◌++◌, ℤ, length, map, take, drop, arith, refl, ap, sym, ◌∙◌, append_assoc, append-nil, length-drop, to_z, of_z, inl, inr}
 use Rattle.std.proofs.lemmas.Bool.{and_parts, cases_Bool, lt-ltb, le-ltb}
-use Rattle.std.proofs.lemmas.Grind.{common_steps}
 use Rattle.std.proofs.lemmas.List.{take-append-drop, drop-drop, drop_all, length-take-le, take_at, drop_at, take_all}
 use Rattle.std.proofs.lemmas.Slice.{take-put_mid, drop-put_mid}
 use Rattle.std.specs.Simd.Lanes.{all_below}

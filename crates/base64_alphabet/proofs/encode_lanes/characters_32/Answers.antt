@@ -1,5 +1,4 @@
-use Rattle.std.proofs.Common.{◌≡◌, length, arith, refl, rules, true, sym, ap, ◌∙◌, replicate}
-use Rattle.std.specs.Simd.Lanes.{zip2}
+use Rattle.std.proofs.Common.{ap, ◌∙◌}
 use Rattle.base64_alphabet.specs.Passes.{read_places}
 use Rattle.base64_alphabet.proofs.TableLemmas.{facts}
 use Rattle.base64_alphabet.proofs.TurnedLemmas.{first_turned, read_at, turn_step, turned_end_lanes}

@@ -1,4 +1,4 @@
-use Rattle.std.proofs.Common.{◌≡◌, ℕ, ◌+◌, ◌-◌, ◌*◌, ◌/◌, ◌≤◌, drop, length, refl, arith, slice_range, take, List, ◌∙◌, ap, length-drop}
+use Rattle.std.proofs.Common.{◌≡◌, ℕ, ◌+◌, ◌-◌, ◌*◌, ◌≤◌, drop, length, refl, arith, slice_range, take, List, ◌∙◌, ap, length-drop}
 use Rattle.std.proofs.lemmas.List.{length-take-le}
 use Rattle.base64_alphabet.proofs.EncodePartsLemmas.{written_step, rest_step, written_end}
 use Rattle.base64_alphabet.proofs.encode_lanes.encode_parts.Goals as goal

@@ -1,4 +1,4 @@
-use Rattle.std.proofs.Common.{◌≡◌, map, ap, ◌∙◌, to_z, of_z}
+use Rattle.std.proofs.Common.{map, ap, ◌∙◌, to_z, of_z}
 use mir.Syntax.{w16}
 use Rattle.base64_alphabet.specs.Lanes.{widened}
 use Rattle.base64_alphabet.proofs.TableLemmas.{facts}

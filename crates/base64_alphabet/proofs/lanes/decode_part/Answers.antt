@@ -1,7 +1,7 @@
-use Rattle.std.proofs.Common.{◌≡◌, map, ap, sym, ◌∙◌, true, List, ℕ, length, take, arith}
+use Rattle.std.proofs.Common.{◌≡◌, map, ap, ◌∙◌, true, length, take, arith}
 use Rattle.std.proofs.lemmas.List.{length-take-le}
 use Rattle.std.specs.Simd.Lanes.{all_below}
-use Rattle.base64_alphabet.specs.Table.{place_of, all_in}
+use Rattle.base64_alphabet.specs.Table.{place_of}
 use Rattle.base64_alphabet.specs.Lanes.{low_byte, bytes_of_digits}
 use Rattle.base64_alphabet.proofs.TableLemmas.{facts}
 use Rattle.base64_alphabet.proofs.PartsLemmas.{all_below_are_in, digits_are_blocks}

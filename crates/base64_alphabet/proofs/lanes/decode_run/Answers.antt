@@ -1,4 +1,4 @@
-use Rattle.std.proofs.Common.{◌≡◌, ℕ, ◌+◌, ◌-◌, ◌*◌, ◌/◌, ◌%◌, ◌≤◌, true, ◌&&◌, List, ◌++◌, length, take, drop, pos, if◌then◌else◌, to_z, of_z, arith, ap, sym, subst, ◌∙◌, slice_range, length-drop}
+use Rattle.std.proofs.Common.{◌≡◌, ℕ, ◌*◌, ◌/◌, ◌&&◌, ◌++◌, length, take, drop, pos, if◌then◌else◌, to_z, of_z, arith, ap, subst, ◌∙◌, slice_range, length-drop}
 use Rattle.std.proofs.lemmas.Bool.{and_parts}
 use Rattle.std.proofs.lemmas.Int.{ints}
 use Rattle.std.proofs.lemmas.List.{length-take-le}

@@ -1,4 +1,4 @@
-use Rattle.std.proofs.Common.{◌≡◌, length, arith, refl, rules}
+use Rattle.std.proofs.Common.{rules}
 use Rattle.base64_alphabet.proofs.LanesLemmas.{pass_step, pass_end, first_sum}
 use Rattle.base64_alphabet.proofs.lanes.places_32.Goals as goal
 
