@@ -10,6 +10,7 @@ use std::hash::Hash;
 use std::marker::Brand;
 use std::process::Abort;
 use std::sync::ledger::{Blank, Ledger};
+use test_checks::{good, same};
 
 // RFC 4648 section 4, table 1, and section 5, table 2.
 const STANDARD: &'static [u8; 64] =
@@ -63,18 +64,15 @@ fn agrees<E: Alphabet>(rt: &impl Abort, table: &[u8; 64]) {
     for (place, character) in table.iter().enumerate() {
         let place = place as i16;
         places[*character as usize] = place;
-        assert_eq!(rt;
-            encoded(E::BASE, E::ENCODER, place),
-            *character as i16,
-            "at {place}"
-        );
+        let found = encoded(E::BASE, E::ENCODER, place);
+        same(rt, "by the passes", &found, &(*character as i16));
         if 0 <= place && place < 64 {
-            assert_eq!(rt; E::encode_6bits(place), *character, "at {place}");
+            same(rt, "by the call", &E::encode_6bits(place), character);
         }
     }
     for (byte, place) in places.iter().enumerate() {
-        assert_eq!(rt; E::decode_6bits(byte as u8), *place, "at {byte}");
-        assert_eq!(rt; decoded(E::DECODER, byte as u8), *place, "at {byte}");
+        same(rt, "by the call", &E::decode_6bits(byte as u8), place);
+        same(rt, "by the passes", &decoded(E::DECODER, byte as u8), place);
     }
 }
 
@@ -99,23 +97,26 @@ fn converts_counting<E: Alphabet, L: Ledger>(rt: &impl Abort, block: &[u8; 4], b
     let mut steps = Steps::<L>::new(blank);
     let mut text = [0u8; 4];
     E::encode_3bytes(b"foo", &mut text);
-    assert_eq!(rt; &text, block);
+    same(rt, "a block", &text, block);
     let mut bytes = [0u8; 3];
     let answer = E::decode_3bytes(block, &mut bytes);
-    assert_eq!(rt; answer, 0);
-    assert_eq!(rt; &bytes, b"foo");
+    same(rt, "a group", &(answer, bytes), &(0, *b"foo"));
 
     let mut counted_text = [0u8; 4];
     E::encode_3bytes_counted(b"foo", &mut counted_text, &mut steps);
-    assert_eq!(rt; &counted_text, block);
+    same(rt, "a counted block", &counted_text, block);
     let mut counted_bytes = [0u8; 3];
     let counted_answer = E::decode_3bytes_counted(block, &mut counted_bytes, &mut steps);
-    assert_eq!(rt; counted_answer, 0);
-    assert_eq!(rt; &counted_bytes, b"foo");
+    same(
+        rt,
+        "a counted group",
+        &(counted_answer, counted_bytes),
+        &(0, *b"foo"),
+    );
     let place = E::decode_6bits_counted(b'=', &mut steps);
-    assert_eq!(rt; place, -1);
+    same(rt, "a place", &place, &-1);
     let character = E::encode_6bits_counted(0, &mut steps);
-    assert_eq!(rt; character, E::BASE);
+    same(rt, "a character", &character, &E::BASE);
 }
 
 fn converts<E: Alphabet>(rt: &impl Abort, block: &[u8; 4]) {
@@ -143,7 +144,7 @@ fn is_named<E: Alphabet + Default + Ord + Hash + Send + Sync>(
     alloc: Global,
     name: &str,
 ) -> bool {
-    let shown = format!(in alloc; "{:?}", E::default()).expect(rt, "memory");
+    let shown = good(rt, "memory", format!(in alloc; "{:?}", E::default()));
     shown.as_str() == name
 }
 

@@ -5,6 +5,7 @@ use crate::encoders::{TWO_HUNDRED_BYTES, two_hundred_bytes};
 use base64ct::{Base64, Decoder, Error};
 use std::alloc::{AllocError, Global};
 use std::io::{ErrorKind, Read};
+use test_checks::{good, same, same_bytes};
 
 // Characters in lines of a width, parted by CR, LF and CRLF in turn.
 fn in_mixed_lines(alloc: Global, flat: &[u8], width: usize) -> Result<Vec<u8>, AllocError>
@@ -59,7 +60,7 @@ fn decodes_under_every_cutting(rt: HostRuntime) {
     let flat = TWO_HUNDRED_BYTES.as_bytes();
     for width in [4, 5, 7, 64] {
         let width = width.max(1);
-        let text = in_mixed_lines(rt.alloc(), flat, width).expect(&rt, "memory");
+        let text = good(&rt, "memory", in_mixed_lines(rt.alloc(), flat, width));
         assert!(rt;
             every_cutting_gives(&text, width, &two_hundred_bytes()),
             "at {width}"
@@ -78,7 +79,7 @@ fn begins_or_refuses(rt: HostRuntime) {
     ];
     for (text, len) in flat {
         let begun = Decoder::<Base64>::new(text).map(|decoder| decoder.remaining_len());
-        assert_eq!(rt; begun, len);
+        same(&rt, "what is left", &begun, &len);
     }
     let lines: [(&[u8], usize, Error); 4] = [
         (b"AAAA\n", 4, Error::InvalidEncoding),
@@ -87,27 +88,41 @@ fn begins_or_refuses(rt: HostRuntime) {
         (b"AAAA\r\n", 5, Error::InvalidEncoding),
     ];
     for (text, width, error) in lines {
-        let refused = Decoder::<Base64>::new_wrapped(text, width);
-        assert!(rt; refused.is_err_and(|e| e == error), "at {width}");
+        let refused = Decoder::<Base64>::new_wrapped(text, width).err();
+        same(&rt, "a refusal", &refused, &Some(error));
     }
 }
 
 #[test]
 fn ends_where_no_byte_is_left(rt: HostRuntime) {
-    let mut decoder = Decoder::<Base64>::new(b"AAAA").expect(&rt, "a text");
-    let mut rest = decoder.clone().expect(&rt, "a clone");
+    let mut decoder = good(&rt, "a text", Decoder::<Base64>::new(b"AAAA"));
+    let mut rest = good(&rt, "a clone", decoder.clone());
     let mut out = [7u8; 3];
-    assert_eq!(rt; decoder.decode(&mut out), Ok(&[0u8; 3][..]));
-    assert_eq!(rt; decoder.decode(&mut []), Ok(&[][..]));
+    same_bytes(
+        &rt,
+        "all",
+        good(&rt, "all", decoder.decode(&mut out)),
+        &[0; 3],
+    );
+    same_bytes(&rt, "none", good(&rt, "none", decoder.decode(&mut [])), &[]);
     assert!(rt; decoder.is_finished());
     let mut bytes = Vec::new(rt.alloc());
-    assert_eq!(rt; rest.decode_to_end(&mut bytes), Ok(&[0u8; 3][..]));
-    assert_eq!(rt; bytes.as_slice(), [0u8; 3].as_slice());
+    same_bytes(
+        &rt,
+        "the rest",
+        good(&rt, "the rest", rest.decode_to_end(&mut bytes)),
+        &[0; 3],
+    );
+    same_bytes(&rt, "the vector", &bytes, &[0; 3]);
 }
 
 #[test]
 fn refused_calls_change_nothing(rt: HostRuntime) {
-    let mut decoder = Decoder::<Base64>::new_wrapped(b"A!AA\nAAAA", 4).expect(&rt, "lines");
+    let mut decoder = good(
+        &rt,
+        "lines",
+        Decoder::<Base64>::new_wrapped(b"A!AA\nAAAA", 4),
+    );
     let rows = [
         (3, Error::InvalidEncoding),
         (3, Error::InvalidEncoding),
@@ -115,17 +130,16 @@ fn refused_calls_change_nothing(rt: HostRuntime) {
     ];
     for (len, error) in rows {
         let mut out = [0u8; 7];
-        assert_eq!(rt; decoder.decode(&mut out[..len.min(7)]), Err(error));
-        assert_eq!(rt; decoder.remaining_len(), 6);
+        let refused = decoder.decode(&mut out[..len.min(7)]).err();
+        same(&rt, "a refusal", &refused, &Some(error));
+        same(&rt, "what is left", &decoder.remaining_len(), &6);
     }
     let mut bytes = Vec::new(rt.alloc());
-    bytes.push(9).expect(&rt, "memory");
-    assert_eq!(rt;
-        decoder.decode_to_end(&mut bytes),
-        Err(Error::InvalidEncoding)
-    );
-    assert_eq!(rt; bytes.as_slice(), [9u8].as_slice());
-    assert_eq!(rt; decoder.remaining_len(), 6);
+    good(&rt, "memory", bytes.push(9));
+    let refused = decoder.decode_to_end(&mut bytes).err();
+    same(&rt, "a refusal", &refused, &Some(Error::InvalidEncoding));
+    same_bytes(&rt, "the vector", &bytes, &[9]);
+    same(&rt, "what is left", &decoder.remaining_len(), &6);
 }
 
 #[test]

@@ -7,6 +7,8 @@ use base64ct::{
 };
 use std::alloc::{AllocError, Global};
 use std::io::{ErrorKind, Write};
+use std::process::Abort;
+use test_checks::{good, same, same_bytes, same_text};
 
 const ENDINGS: [LineEnding; 3] = [LineEnding::CR, LineEnding::LF, LineEnding::CRLF];
 
@@ -85,6 +87,31 @@ fn every_cutting_gives(
     true
 }
 
+fn check_lines(rt: &impl Abort, alloc: Global, bytes: &[u8; 200], width: usize, ending: LineEnding)
+    requires { 1 ≤ width }
+{
+    let flat = TWO_HUNDRED_BYTES.as_bytes();
+    let text = good(
+        rt,
+        "memory",
+        in_lines(alloc, flat, width, ending.as_bytes()),
+    );
+    same(
+        rt,
+        "a length",
+        &wrapped_len(width, ending, flat.len()),
+        &Some(text.len()),
+    );
+    assert!(rt;
+        every_cutting_gives(bytes, &text, Some(width), ending),
+        "at {width}"
+    );
+    let mut decoder = good(rt, "lines", Decoder::<Base64>::new_wrapped(&text, width));
+    let mut back = Vec::new(alloc);
+    same(rt, "read back", &decoder.append_to(&mut back), &Ok(200));
+    same_bytes(rt, "read back", &back, bytes);
+}
+
 #[test]
 fn encodes_under_every_cutting(rt: HostRuntime) {
     let bytes = two_hundred_bytes();
@@ -92,17 +119,7 @@ fn encodes_under_every_cutting(rt: HostRuntime) {
     assert!(rt; every_cutting_gives(&bytes, flat, None, LineEnding::LF));
     for width in [4, 5, 64] {
         for ending in ENDINGS {
-            let width = width.max(1);
-            let text = in_lines(rt.alloc(), flat, width, ending.as_bytes()).expect(&rt, "memory");
-            assert_eq!(rt; wrapped_len(width, ending, flat.len()), Some(text.len()));
-            assert!(rt;
-                every_cutting_gives(&bytes, &text, Some(width), ending),
-                "at {width}"
-            );
-            let mut decoder = Decoder::<Base64>::new_wrapped(&text, width).expect(&rt, "lines");
-            let mut back = Vec::new(rt.alloc());
-            assert_eq!(rt; decoder.append_to(&mut back), Ok(200));
-            assert_eq!(rt; back.as_slice(), bytes.as_slice());
+            check_lines(&rt, rt.alloc(), &bytes, width.max(1), ending);
         }
     }
 }
@@ -119,7 +136,7 @@ fn encodes_lines(rt: HostRuntime) {
     for (bytes, width, ending, text) in rows {
         let mut output = [0u8; 10];
         let written = encoded(&mut output, Some(width), ending, [bytes, b"", b""]);
-        assert_eq!(rt; written, Ok(text), "at {width}");
+        same_text(&rt, "a text", good(&rt, text, written), text);
     }
     let mut output = [0u8; 64];
     let one_line = encoded(&mut output, Some(64), LineEnding::LF, [&[0; 48], b"", b""]);
@@ -133,51 +150,68 @@ fn refuses_what_exceeds_the_output(rt: HostRuntime) {
         let mut output = [0u8; 8];
         let room = room.min(8);
         let refused = Encoder::<Base64>::new_wrapped(&mut output[..room], width, LineEnding::LF);
-        assert!(rt;
-            refused.is_err_and(|e| e == Error::InvalidLength),
-            "at {width}"
+        same(
+            &rt,
+            "a refusal",
+            &refused.err(),
+            &Some(Error::InvalidLength),
         );
     }
     let mut output = [0u8; 8];
-    let mut encoder = Encoder::<Base64>::new_wrapped(&mut output, 4, LineEnding::LF).expect(
+    let begun = Encoder::<Base64>::new_wrapped(&mut output, 4, LineEnding::LF);
+    let mut encoder = good(&rt, "an encoder", begun);
+    for (bytes, answer, position) in [
+        ([0; 6].as_slice(), Err(Error::InvalidLength), 0),
+        ([0; 5].as_slice(), Ok(()), 4),
+    ] {
+        same(&rt, "an answer", &encoder.encode(bytes), &answer);
+        same(&rt, "a position", &encoder.position(), &position);
+    }
+    same(
         &rt,
-        "an encoder",
+        "the end",
+        &encoder.finish().err(),
+        &Some(Error::InvalidLength),
     );
-    assert_eq!(rt; encoder.encode(&[0; 6]), Err(Error::InvalidLength));
-    assert_eq!(rt; encoder.position(), 0);
-    assert_eq!(rt; encoder.encode(&[0; 5]), Ok(()));
-    assert_eq!(rt; encoder.position(), 4);
-    assert_eq!(rt; encoder.finish(), Err(Error::InvalidLength));
 }
 
 #[test]
 fn gives_back_the_rest_of_the_output(rt: HostRuntime) {
     let mut output = [7u8; 8];
-    let mut encoder = Encoder::<Base64UrlUnpadded>::new(&mut output).expect(&rt, "an encoder");
-    assert_eq!(rt; encoder.encode(b"\xff\xff"), Ok(()));
-    let (text, rest) = encoder
-        .finish_with_remaining()
-        .expect(&rt, "a text that fits");
-    assert_eq!(rt; text, "__8");
-    assert_eq!(rt; rest.len(), 5);
+    let begun = Encoder::<Base64UrlUnpadded>::new(&mut output);
+    let mut encoder = good(&rt, "an encoder", begun);
+    good(&rt, "two bytes", encoder.encode(b"\xff\xff"));
+    let (text, rest) = good(&rt, "a text that fits", encoder.finish_with_remaining());
+    same_text(&rt, "a text", text, "__8");
+    same(&rt, "the rest", &rest.len(), &5);
 }
 
 #[test]
 fn is_written_to(rt: HostRuntime) {
     let mut output = [0u8; 8];
-    let mut encoder = Encoder::<Base64>::new(&mut output).expect(&rt, "an encoder");
-    assert!(rt; encoder.write(b"fo").is_ok_and(|n| n == 2));
-    assert!(rt; encoder.write_all(b"ob").is_ok());
-    assert!(rt; encoder.flush().is_ok());
-    assert_eq!(rt; encoder.position(), 4);
+    let mut encoder = good(&rt, "an encoder", Encoder::<Base64>::new(&mut output));
+    same(
+        &rt,
+        "two bytes",
+        &good(&rt, "two bytes", encoder.write(b"fo")),
+        &2,
+    );
+    good(&rt, "two more", encoder.write_all(b"ob"));
+    good(&rt, "a flush", encoder.flush());
+    same(&rt, "a position", &encoder.position(), &4);
     let refused = encoder.write(&[0; 9]);
     assert!(rt; refused.is_err_and(|e| e.kind() == ErrorKind::InvalidData));
-    assert_eq!(rt; encoder.finish(), Ok("Zm9vYg=="));
+    same_text(
+        &rt,
+        "a text",
+        good(&rt, "a text", encoder.finish()),
+        "Zm9vYg==",
+    );
 }
 
 #[test]
 fn line_endings(rt: HostRuntime) {
-    assert_eq!(rt; LineEnding::default(), LineEnding::LF);
+    same(&rt, "the default", &LineEnding::default(), &LineEnding::LF);
     assert!(rt; LineEnding::CR < LineEnding::LF && LineEnding::LF < LineEnding::CRLF);
     let rows: [(LineEnding, &[u8], usize); 3] = [
         (LineEnding::CR, b"\r", 1),
@@ -185,8 +219,8 @@ fn line_endings(rt: HostRuntime) {
         (LineEnding::CRLF, b"\r\n", 2),
     ];
     for (ending, bytes, len) in rows {
-        assert_eq!(rt; ending.as_bytes(), bytes);
-        assert_eq!(rt; ending.len(), len);
+        same_bytes(&rt, "an ending", ending.as_bytes(), bytes);
+        same(&rt, "a length", &ending.len(), &len);
     }
 }
 
@@ -200,10 +234,11 @@ fn lengths_of_lines(rt: HostRuntime) {
         (1, LineEnding::CRLF, usize::MAX, None),
     ];
     for (width, ending, characters, len) in rows {
-        assert_eq!(rt;
-            wrapped_len(width.max(1), ending, characters),
-            len,
-            "at {width}"
+        same(
+            &rt,
+            "a length",
+            &wrapped_len(width.max(1), ending, characters),
+            &len,
         );
     }
 }

@@ -6,6 +6,7 @@ use base64_alphabet::{Alphabet, Base64, Base64Unpadded, Steps, decode_blocks, en
 use base64_crypt::Base64ShaCrypt;
 use std::marker::Brand;
 use std::sync::ledger::{Blank, Ledger};
+use test_checks::same;
 
 // Two groups to their characters and back, each conversion counted.
 fn there_and_back<E: Alphabet, L: Ledger>(bytes: &[u8; 6], blank: Blank) -> ([u8; 8], [u8; 6], bool)
@@ -31,15 +32,11 @@ fn converted<E: Alphabet>(bytes: &[u8; 6]) -> ([u8; 8], [u8; 6], bool) {
 fn converts_whole_blocks(rt: HostRuntime) {
     let foobar = b"foobar";
     let standard = converted::<Base64>(foobar);
-    assert_eq!(rt; &standard.0, b"Zm9vYmFy");
-    assert_eq!(rt; &standard.1, foobar);
-    assert!(rt; standard.2);
+    same(&rt, "standard", &standard, &(*b"Zm9vYmFy", *foobar, true));
     let unpadded = converted::<Base64Unpadded>(foobar);
-    assert_eq!(rt; &unpadded.0, b"Zm9vYmFy");
+    same(&rt, "unpadded", &unpadded, &(*b"Zm9vYmFy", *foobar, true));
     let sha_crypt = converted::<Base64ShaCrypt>(foobar);
-    assert_eq!(rt; &sha_crypt.0, b"axqPW3aQ");
-    assert_eq!(rt; &sha_crypt.1, foobar);
-    assert!(rt; sha_crypt.2);
+    same(&rt, "SHA-crypt", &sha_crypt, &(*b"axqPW3aQ", *foobar, true));
 }
 
 // The places of RFC 4648 section 4, table 1.
@@ -60,8 +57,8 @@ fn converts_single_characters(rt: HostRuntime) {
         (255, -1),
     ];
     for (character, place) in places {
-        assert_eq!(rt; Base64::decode_6bits(character), place, "at {character}");
+        same(&rt, "a place", &Base64::decode_6bits(character), &place);
     }
-    assert_eq!(rt; Base64::encode_6bits(62), b'+');
-    assert_eq!(rt; Base64ShaCrypt::encode_6bits(0), b'.');
+    same(&rt, "standard", &Base64::encode_6bits(62), &b'+');
+    same(&rt, "SHA-crypt", &Base64ShaCrypt::encode_6bits(0), &b'.');
 }

@@ -6,6 +6,7 @@ ghost use Rattle.base64_alphabet.specs.Standard.{standard};
 ghost use Rattle.base64ct.specs.Canonical.{is_clean, unpadded_len};
 ghost use Rattle.base64ct.specs.Counts.{decode_count};
 
+use crate::texts::is_read;
 use base64ct::{
     Alphabet, Base64, Base64Bcrypt, Base64Crypt, Base64Pbkdf2, Base64ShaCrypt, Base64Unpadded,
     Base64Url, Base64UrlUnpadded, Encoding, Error, InvalidEncodingError, Steps, lanes,
@@ -13,6 +14,7 @@ use base64ct::{
 use std::alloc::Global;
 use std::marker::Brand;
 use std::sync::ledger::{Blank, Ledger};
+use test_checks::same;
 
 // Whether the encodings of the fronts of the bytes begin with their groups one by one, and are decoded to
 // the fronts.
@@ -29,16 +31,9 @@ fn reads_back<E: Encoding>(alloc: Global, bytes: &[u8; 130]) -> bool {
         let Ok(text) = E::encode_string(alloc, front) else {
             return false;
         };
-        if !text.as_bytes().starts_with(&groups[..4 * (n / 3)]) {
-            return false;
-        }
-        let mut space = [0u8; 176];
-        let mut copy = [0u8; 176];
-        let len = text.len().min(176);
-        copy[..len].copy_from_slice(&text.as_bytes()[..len]);
-        let decoded = E::decode(text.as_bytes(), &mut space) == Ok(front)
-            && E::decode_vec(alloc, text.as_str()).is_ok_and(|v| v.as_slice() == front);
-        if !decoded || E::decode_in_place(&mut copy[..len]) != Ok(front) {
+        if !text.as_bytes().starts_with(&groups[..4 * (n / 3)])
+            || !is_read::<E>(alloc, text.as_str(), front)
+        {
             return false;
         }
     }
@@ -129,10 +124,9 @@ fn converts_a_part_and_a_run(rt: HostRuntime) {
         part,
         b"Zm9vYmFyZm9vYmFyZm9vYmFyZm9vYmFyZm9v",
     );
-    assert_eq!(rt; converted_places, places);
-    assert_eq!(rt; &out, b"foobarfoobarfoobarfoobarfoo\x07");
-    assert_eq!(rt; answer, 0);
+    same(&rt, "a part", &converted_places, &places);
+    same(&rt, "a run", &out, b"foobarfoobarfoobarfoobarfoo\x07");
+    same(&rt, "an answer", &answer, &0);
     let refused = converted::<Base64>(part, b"Zm9vYmFyZm9vYmFyZm9vYmFyZm9vYmF!Zm9v");
-    assert_eq!(rt; refused.2, 1);
-    assert_eq!(rt; refused.1[27], 7);
+    same(&rt, "a refusal", &(refused.2, refused.1[27]), &(1, 7));
 }

@@ -13,7 +13,9 @@ use base64ct::{
 };
 use std::alloc::Global;
 use std::marker::Brand;
+use std::process::Abort;
 use std::sync::ledger::{Blank, Ledger};
+use test_checks::{good, same, same_bytes, same_text};
 
 // An update document of 153 bytes, by hand from its parts: one entry, one bundle.
 const DOCUMENT: &[u8] =
@@ -51,26 +53,44 @@ fn decodes_lines(rt: HostRuntime) {
         (b"AAAA", 4, &[0; 3]),
     ];
     for (text, width, bytes) in texts {
-        let result = decoded(rt.alloc(), text, width).expect(&rt, "an accepted text");
-        assert_eq!(rt; result.as_slice(), bytes, "at {width}");
+        let result = good(&rt, "an accepted text", decoded(rt.alloc(), text, width));
+        same_bytes(&rt, "the bytes", &result, bytes);
     }
+}
+
+fn appends(
+    rt: &impl Abort,
+    decoder: &mut Decoder<'_, Base64>,
+    bytes: &mut Vec<u8>,
+    answer: Result<usize, Error>,
+) {
+    let appended = decoder.append_to(bytes);
+    same(rt, "appended", &appended, &answer);
 }
 
 #[test]
 fn appends_to_a_vector(rt: HostRuntime) {
-    let mut bytes = Vec::from_slice(rt.alloc(), &[7]).expect(&rt, "memory");
-    let mut decoder = Decoder::<Base64>::new_wrapped(MIXED, 64).expect(&rt, "lines");
-    assert_eq!(rt; decoder.remaining_len(), 153);
-    assert_eq!(rt; decoder.append_to(&mut bytes), Ok(153));
-    assert_eq!(rt; decoder.remaining_len(), 0);
-    assert_eq!(rt; decoder.append_to(&mut bytes), Ok(0));
-    assert_eq!(rt; bytes.len(), 154);
-    assert_eq!(rt; bytes.first(), Some(&7));
-    assert_eq!(rt; &bytes[1..], DOCUMENT);
-    let mut refused = Decoder::<Base64>::new_wrapped(b"A!AA\nAA==", 4).expect(&rt, "lines");
-    assert_eq!(rt; refused.append_to(&mut bytes), Err(Error::InvalidEncoding));
-    assert_eq!(rt; refused.remaining_len(), 4);
-    assert_eq!(rt; bytes.len(), 154);
+    let mut bytes = good(&rt, "memory", Vec::from_slice(rt.alloc(), &[7]));
+    let mut decoder = good(&rt, "lines", Decoder::<Base64>::new_wrapped(MIXED, 64));
+    for left in [153, 0] {
+        same(&rt, "what is left", &decoder.remaining_len(), &left);
+        appends(&rt, &mut decoder, &mut bytes, Ok(left));
+    }
+    same_bytes(&rt, "the first", &bytes[..bytes.len().min(1)], &[7]);
+    same_bytes(&rt, "the others", bytes.get(1..).unwrap_or(&[]), DOCUMENT);
+}
+
+#[test]
+fn refused_text_appends_nothing(rt: HostRuntime) {
+    let mut bytes = good(&rt, "memory", Vec::from_slice(rt.alloc(), DOCUMENT));
+    let mut refused = good(
+        &rt,
+        "lines",
+        Decoder::<Base64>::new_wrapped(b"A!AA\nAA==", 4),
+    );
+    appends(&rt, &mut refused, &mut bytes, Err(Error::InvalidEncoding));
+    same(&rt, "what is left", &refused.remaining_len(), &4);
+    same_bytes(&rt, "what stays", &bytes, DOCUMENT);
 }
 
 // From the eighth on each differs in one place from the text `AAAA`, LF, `AAAA`, LF, `AA==`.
@@ -105,11 +125,11 @@ fn refuses_other_lines(rt: HostRuntime) {
         (b"AAAA\nAAAA\nAA==\n", 4, Error::InvalidEncoding),
     ];
     for (text, width, error) in texts {
-        let result = decoded(rt.alloc(), text, width);
-        assert!(rt;
-            result.is_err_and(|e| e == error),
-            "at a text of {}",
-            text.len()
+        same(
+            &rt,
+            "a refusal",
+            &decoded(rt.alloc(), text, width).err(),
+            &Some(error),
         );
     }
 }
@@ -130,249 +150,130 @@ fn encodes_and_decodes_texts(rt: HostRuntime) {
         (b"2", "Mg=="),
     ];
     for (bytes, text) in texts {
-        let encoded = Base64::encode_string(rt.alloc(), bytes).expect(&rt, "memory");
-        assert_eq!(rt; encoded.as_str(), text);
-        let decoded = Base64::decode_vec(rt.alloc(), text).expect(&rt, "a canonical text");
-        assert_eq!(rt; decoded.as_slice(), bytes);
+        let encoded = good(&rt, "memory", Base64::encode_string(rt.alloc(), bytes));
+        same_text(&rt, "a text", encoded.as_str(), text);
+        let decoded = good(
+            &rt,
+            "a canonical text",
+            Base64::decode_vec(rt.alloc(), text),
+        );
+        same_bytes(&rt, text, &decoded, bytes);
     }
 }
 
 // Twelve bytes, whose fronts each alphabet encodes.
 const BYTES: &[u8; 12] = b"\xfb\xff\xbe\x00\x10\x83\x9a\x2d\x07\xe1\x5c\xfe";
 
-// Whether each call agrees that these are the texts of the fronts of `BYTES`, shortest first.
-fn agrees<E: Encoding>(alloc: Global, texts: &[&str; 13]) -> bool {
-    for (n, text) in texts.iter().enumerate() {
+// Whether each call that encodes gives the text of the bytes.
+fn is_text<E: Encoding>(alloc: Global, bytes: &[u8], text: &str) -> bool {
+    let mut space = [0u8; 16];
+    E::encode(bytes, &mut space) == Ok(text)
+        && E::encoded_len(bytes) == text.len()
+        && E::encode_string(alloc, bytes).is_ok_and(|t| t.as_str() == text)
+}
+
+// Whether each call that decodes gives the bytes of the text, which has at most 176 characters.
+pub(crate) fn is_read<E: Encoding>(alloc: Global, text: &str, bytes: &[u8]) -> bool {
+    let mut space = [0u8; 176];
+    let mut copy = [0u8; 176];
+    let len = text.len().min(176);
+    copy[..len].copy_from_slice(&text.as_bytes()[..len]);
+    E::decode(text.as_bytes(), &mut space) == Ok(bytes)
+        && E::decode_vec(alloc, text).is_ok_and(|v| v.as_slice() == bytes)
+        && E::decode_in_place(&mut copy[..len]) == Ok(bytes)
+}
+
+// Whether each call agrees that these are the texts of the fronts of `BYTES`, shortest first and parted by blanks.
+fn agrees<E: Encoding>(alloc: Global, texts: &str) -> bool {
+    let mut agreed = true;
+    for (n, text) in texts.split(' ').enumerate() {
         let bytes = &BYTES[..n.min(12)];
-        let mut space = [0u8; 16];
-        let mut copy = [0u8; 16];
-        let encoded = E::encode(bytes, &mut space) == Ok(*text)
-            && E::encoded_len(bytes) == text.len()
-            && E::encode_string(alloc, bytes).is_ok_and(|t| t.as_str() == *text);
-        let decoded = E::decode(text.as_bytes(), &mut space) == Ok(bytes)
-            && E::decode_vec(alloc, text).is_ok_and(|v| v.as_slice() == bytes);
-        let len = text.len().min(16);
-        copy[..len].copy_from_slice(&text.as_bytes()[..len]);
-        if !encoded || !decoded || E::decode_in_place(&mut copy[..len]) != Ok(bytes) {
-            return false;
-        }
+        agreed &= is_text::<E>(alloc, bytes, text) & is_read::<E>(alloc, text, bytes);
     }
-    true
+    agreed
 }
 
 // By python: its base64 for the first and the third alphabet, and for all eight a loop over groups with
 // `int.from_bytes` and shifts, checked against that.
 #[test]
 fn agrees_with_python(rt: HostRuntime) {
-    assert!(rt;
-        agrees::<Base64>(
-            rt.alloc(),
-            &[
-                "",
-                "+w==",
-                "+/8=",
-                "+/++",
-                "+/++AA==",
-                "+/++ABA=",
-                "+/++ABCD",
-                "+/++ABCDmg==",
-                "+/++ABCDmi0=",
-                "+/++ABCDmi0H",
-                "+/++ABCDmi0H4Q==",
-                "+/++ABCDmi0H4Vw=",
-                "+/++ABCDmi0H4Vz+"
-            ]
-        )
-    );
-    assert!(rt;
-        agrees::<Base64Unpadded>(
-            rt.alloc(),
-            &[
-                "",
-                "+w",
-                "+/8",
-                "+/++",
-                "+/++AA",
-                "+/++ABA",
-                "+/++ABCD",
-                "+/++ABCDmg",
-                "+/++ABCDmi0",
-                "+/++ABCDmi0H",
-                "+/++ABCDmi0H4Q",
-                "+/++ABCDmi0H4Vw",
-                "+/++ABCDmi0H4Vz+"
-            ]
-        )
-    );
-    assert!(rt;
-        agrees::<Base64Url>(
-            rt.alloc(),
-            &[
-                "",
-                "-w==",
-                "-_8=",
-                "-_--",
-                "-_--AA==",
-                "-_--ABA=",
-                "-_--ABCD",
-                "-_--ABCDmg==",
-                "-_--ABCDmi0=",
-                "-_--ABCDmi0H",
-                "-_--ABCDmi0H4Q==",
-                "-_--ABCDmi0H4Vw=",
-                "-_--ABCDmi0H4Vz-"
-            ]
-        )
-    );
-    assert!(rt;
-        agrees::<Base64UrlUnpadded>(
-            rt.alloc(),
-            &[
-                "",
-                "-w",
-                "-_8",
-                "-_--",
-                "-_--AA",
-                "-_--ABA",
-                "-_--ABCD",
-                "-_--ABCDmg",
-                "-_--ABCDmi0",
-                "-_--ABCDmi0H",
-                "-_--ABCDmi0H4Q",
-                "-_--ABCDmi0H4Vw",
-                "-_--ABCDmi0H4Vz-"
-            ]
-        )
-    );
-    assert!(rt;
-        agrees::<Base64Bcrypt>(
-            rt.alloc(),
-            &[
-                "",
-                "8u",
-                "896",
-                "8988",
-                "8988..",
-                "8988./.",
-                "8988./AB",
-                "8988./ABke",
-                "8988./ABkgy",
-                "8988./ABkgyF",
-                "8988./ABkgyF2O",
-                "8988./ABkgyF2Tu",
-                "8988./ABkgyF2Tx8"
-            ]
-        )
-    );
-    assert!(rt;
-        agrees::<Base64Crypt>(
-            rt.alloc(),
-            &[
-                "",
-                "yk",
-                "yzw",
-                "yzyy",
-                "yzyy..",
-                "yzyy./.",
-                "yzyy./01",
-                "yzyy./01aU",
-                "yzyy./01aWo",
-                "yzyy./01aWo5",
-                "yzyy./01aWo5sE",
-                "yzyy./01aWo5sJk",
-                "yzyy./01aWo5sJny"
-            ]
-        )
-    );
-    assert!(rt;
-        agrees::<Base64ShaCrypt>(
-            rt.alloc(),
-            &[
-                "",
-                "v1",
-                "vzD",
-                "vzjj",
-                "vzjj..",
-                "vzjj../",
-                "vzjj..lU",
-                "vzjj..lUO0",
-                "vzjj..lUOq0",
-                "vzjj..lUOqm/",
-                "vzjj..lUOqm/V1",
-                "vzjj..lUOqm/Vn3",
-                "vzjj..lUOqm/VnZz"
-            ]
-        )
-    );
-    assert!(rt;
-        agrees::<Base64Pbkdf2>(
-            rt.alloc(),
-            &[
-                "",
-                ".w",
-                "./8",
-                "./..",
-                "./..AA",
-                "./..ABA",
-                "./..ABCD",
-                "./..ABCDmg",
-                "./..ABCDmi0",
-                "./..ABCDmi0H",
-                "./..ABCDmi0H4Q",
-                "./..ABCDmi0H4Vw",
-                "./..ABCDmi0H4Vz."
-            ]
-        )
+    let alloc = rt.alloc();
+    let texts =
+        " +w== +/8= +/++ +/++AA== +/++ABA= +/++ABCD +/++ABCDmg== +/++ABCDmi0= +/++ABCDmi0H +/++ABCDmi0H4Q== +/++ABCDmi0H4Vw= +/++ABCDmi0H4Vz+";
+    assert!(rt; agrees::<Base64>(alloc, texts));
+    let texts =
+        " +w +/8 +/++ +/++AA +/++ABA +/++ABCD +/++ABCDmg +/++ABCDmi0 +/++ABCDmi0H +/++ABCDmi0H4Q +/++ABCDmi0H4Vw +/++ABCDmi0H4Vz+";
+    assert!(rt; agrees::<Base64Unpadded>(alloc, texts));
+    let texts =
+        " -w== -_8= -_-- -_--AA== -_--ABA= -_--ABCD -_--ABCDmg== -_--ABCDmi0= -_--ABCDmi0H -_--ABCDmi0H4Q== -_--ABCDmi0H4Vw= -_--ABCDmi0H4Vz-";
+    assert!(rt; agrees::<Base64Url>(alloc, texts));
+    let texts =
+        " -w -_8 -_-- -_--AA -_--ABA -_--ABCD -_--ABCDmg -_--ABCDmi0 -_--ABCDmi0H -_--ABCDmi0H4Q -_--ABCDmi0H4Vw -_--ABCDmi0H4Vz-";
+    assert!(rt; agrees::<Base64UrlUnpadded>(alloc, texts));
+    let texts =
+        " 8u 896 8988 8988.. 8988./. 8988./AB 8988./ABke 8988./ABkgy 8988./ABkgyF 8988./ABkgyF2O 8988./ABkgyF2Tu 8988./ABkgyF2Tx8";
+    assert!(rt; agrees::<Base64Bcrypt>(alloc, texts));
+    let texts =
+        " yk yzw yzyy yzyy.. yzyy./. yzyy./01 yzyy./01aU yzyy./01aWo yzyy./01aWo5 yzyy./01aWo5sE yzyy./01aWo5sJk yzyy./01aWo5sJny";
+    assert!(rt; agrees::<Base64Crypt>(alloc, texts));
+    let texts =
+        " v1 vzD vzjj vzjj.. vzjj../ vzjj..lU vzjj..lUO0 vzjj..lUOq0 vzjj..lUOqm/ vzjj..lUOqm/V1 vzjj..lUOqm/Vn3 vzjj..lUOqm/VnZz";
+    assert!(rt; agrees::<Base64ShaCrypt>(alloc, texts));
+    let texts =
+        " .w ./8 ./.. ./..AA ./..ABA ./..ABCD ./..ABCDmg ./..ABCDmi0 ./..ABCDmi0H ./..ABCDmi0H4Q ./..ABCDmi0H4Vw ./..ABCDmi0H4Vz.";
+    assert!(rt; agrees::<Base64Pbkdf2>(alloc, texts));
+}
+
+#[test]
+fn decodes_into_outputs(rt: HostRuntime) {
+    let mut out = [0u8; 8];
+    let refused = Base64Pbkdf2::decode(b"Mi", &mut out).err();
+    same(&rt, "a refusal", &refused, &Some(Error::InvalidEncoding));
+    let mut buf = *b"Mi";
+    let decoded = good(&rt, "in place", Base64Pbkdf2::decode_in_place(&mut buf));
+    same_bytes(&rt, "in place", decoded, b"2");
+    let texts: [(&[u8], usize, Result<usize, Error>); 4] = [
+        (b"AA/=", 8, Err(Error::InvalidEncoding)),
+        (b"AAA", 0, Err(Error::InvalidEncoding)),
+        (b"AAAA", 2, Err(Error::InvalidLength)),
+        (b"", 0, Ok(0)),
+    ];
+    for (text, space, answer) in texts {
+        let decoded = Base64::decode(text, &mut out[..space.min(8)]);
+        same(&rt, "decoded", &decoded.map(|bytes| bytes.len()), &answer);
+    }
+}
+
+fn encodes<E: Encoding>(rt: &impl Abort, bytes: &[u8], text: &str) {
+    let mut out = [0u8; 8];
+    same_text(
+        rt,
+        "a text",
+        good(rt, text, E::encode(bytes, &mut out)),
+        text,
     );
 }
 
 #[test]
-fn decodes_and_encodes_into_outputs(rt: HostRuntime) {
-    let mut out = [0u8; 8];
-    assert_eq!(rt;
-        Base64Pbkdf2::decode(b"Mi", &mut out),
-        Err(Error::InvalidEncoding)
-    );
-    let mut buf = *b"Mi";
-    assert_eq!(rt; Base64Pbkdf2::decode_in_place(&mut buf), Ok(&b"2"[..]));
-    let texts: [(&[u8], usize, Error); 3] = [
-        (b"AA/=", 8, Error::InvalidEncoding),
-        (b"AAA", 0, Error::InvalidEncoding),
-        (b"AAAA", 2, Error::InvalidLength),
-    ];
-    for (text, space, error) in texts {
-        let space = space.min(8);
-        assert_eq!(rt;
-            Base64::decode(text, &mut out[..space]),
-            Err(error),
-            "into {space}"
-        );
-    }
-    assert_eq!(rt; Base64::decode(b"", &mut out[..0]), Ok(&b""[..]));
-    assert_eq!(rt;
-        Base64::encode(b"foo", &mut out[..3]),
-        Err(InvalidLengthError)
-    );
-    assert_eq!(rt;
-        Base64ShaCrypt::encode(b"\x55\xaa\x55\xaa\x55", &mut out),
-        Ok("JdOJeK3")
-    );
-    assert_eq!(rt;
-        Base64Bcrypt::encode(b"\x01\x02\x03\x04", &mut out),
-        Ok(".OGB/.")
-    );
-    assert_eq!(rt; Base64Crypt::encode(b"***", &mut out), Ok("8Wce"));
-    let six = b"\xff\xef\xfe\xff\xef\xfe";
-    assert_eq!(rt; Base64Pbkdf2::encode(six, &mut out), Ok("/./././."));
+fn encodes_into_outputs(rt: HostRuntime) {
+    let mut out = [0u8; 3];
+    let refused = Base64::encode(b"foo", &mut out).err();
+    same(&rt, "a refusal", &refused, &Some(InvalidLengthError));
+    encodes::<Base64ShaCrypt>(&rt, b"\x55\xaa\x55\xaa\x55", "JdOJeK3");
+    encodes::<Base64Bcrypt>(&rt, b"\x01\x02\x03\x04", ".OGB/.");
+    encodes::<Base64Crypt>(&rt, b"***", "8Wce");
+    encodes::<Base64Pbkdf2>(&rt, b"\xff\xef\xfe\xff\xef\xfe", "/./././.");
 }
 
 #[test]
 fn converts_errors(rt: HostRuntime) {
-    assert_eq!(rt; Error::from(InvalidEncodingError), Error::InvalidEncoding);
-    assert_eq!(rt; Error::from(InvalidLengthError), Error::InvalidLength);
+    let encoding = Error::from(InvalidEncodingError);
+    same(&rt, "encoding", &encoding, &Error::InvalidEncoding);
+    let length = Error::from(InvalidLengthError);
+    same(&rt, "length", &length, &Error::InvalidLength);
     let kind = std::io::Error::from(Error::InvalidLength).kind();
-    assert_eq!(rt; kind, std::io::ErrorKind::InvalidData);
-    assert_eq!(rt; Error::OutOfMemory as u8, 3);
+    same(&rt, "kind", &kind, &std::io::ErrorKind::InvalidData);
+    same(&rt, "number", &(Error::OutOfMemory as u8), &3);
 }
 
 // What the count of 1,000 characters without padding is, by hand: 250 blocks and one more; 1 block or 2
@@ -409,17 +310,13 @@ fn counts_a_thousand_characters(rt: HostRuntime) {
     for at in [0, 500, 999] {
         let mut text = [b'A'; 1000];
         text[at] = b'!';
-        assert_eq!(rt;
-            counted::<Base64>(&mut text),
-            (false, false, true),
-            "bad at {at}"
-        );
+        let answer = counted::<Base64>(&mut text);
+        same(&rt, "a bad character", &answer, &(false, false, true));
     }
-    assert_eq!(rt; counted::<Base64>(&mut [b'A'; 1000]), (true, true, true));
-    assert_eq!(rt;
-        counted::<Base64Unpadded>(&mut [b'A'; 1000]),
-        (true, true, true)
-    );
+    let answer = counted::<Base64>(&mut [b'A'; 1000]);
+    same(&rt, "padded", &answer, &(true, true, true));
+    let answer = counted::<Base64Unpadded>(&mut [b'A'; 1000]);
+    same(&rt, "unpadded", &answer, &(true, true, true));
 }
 
 #[test]

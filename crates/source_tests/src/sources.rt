@@ -9,7 +9,7 @@ use spiffe_core::BundleSource;
 use spiffe_id::TrustDomain;
 use std::alloc::Global;
 use std::sync::Wait;
-use std::test::Fail;
+use test_checks::{good, same};
 
 /// One identity, `spiffe://example.org/a`, and one bundle, of `example.org`, without keys.
 const GRANTED: &[u8] = b"MIGWMHYwdAwWc3BpZmZlOi8vZXhhbXBsZS5vcmcvYTAuAgEAMAUGAytlcAQiBCAR
@@ -50,45 +50,46 @@ fn is_granted(state: &Snapshot) -> Option<bool> {
 }
 
 #[test]
-fn reader_sees_untold_publish(rt: HostRuntime) -> Result<(), Fail> {
-    let (mut source, mut reader) = opened(&rt, rt.alloc(), 0)?;
+fn reader_sees_untold_publish(rt: HostRuntime) {
+    let (mut source, mut reader) = good(&rt, "a source", opened(&rt, rt.alloc(), 0));
     let applied = source.apply(&rt, GRANTED, WIDTH).is_ok();
     let seen = answer(&mut reader);
     source.close(&rt);
-    assert_eq!(rt; (applied, seen), (true, (1, Some(Look::Looked))));
-    Ok(())
+    assert!(rt; applied);
+    same(&rt, "seen", &seen, &(1, Some(Look::Looked)));
 }
 
 #[test]
-fn used_up_revisions_are_refused(rt: HostRuntime) -> Result<(), Fail> {
-    let (mut source, mut reader) = opened(&rt, rt.alloc(), u64::MAX)?;
+fn used_up_revisions_are_refused(rt: HostRuntime) {
+    let (mut source, mut reader) = good(&rt, "a source", opened(&rt, rt.alloc(), u64::MAX));
     let refused = source.apply(&rt, GRANTED, WIDTH).err();
     let identities = reader.current().identities().count();
     let seen = answer(&mut reader);
     let latest = source.latest().revision();
     source.close(&rt);
-    assert_eq!(rt; refused, Some(UpdateError::RevisionsUsedUp));
-    assert_eq!(rt;
-        (identities, seen, latest),
-        (0, (u64::MAX, Some(Look::Looked)), u64::MAX)
+    same(
+        &rt,
+        "a refusal",
+        &refused,
+        &Some(UpdateError::RevisionsUsedUp),
     );
-    Ok(())
+    same(&rt, "identities", &identities, &0);
+    same(&rt, "seen", &seen, &(u64::MAX, Some(Look::Looked)));
+    same(&rt, "latest", &latest, &u64::MAX);
 }
 
 #[test]
-fn refused_texts_publish_nothing(rt: HostRuntime) -> Result<(), Fail> {
-    let (mut source, mut reader) = opened(&rt, rt.alloc(), 7)?;
+fn refused_texts_publish_nothing(rt: HostRuntime) {
+    let (mut source, mut reader) = good(&rt, "a source", opened(&rt, rt.alloc(), 7));
     let empty = source.apply(&rt, b"", WIDTH).err();
     let seen = answer(&mut reader);
     let applied = source.apply(&rt, GRANTED, WIDTH).is_ok();
     let latest = source.latest().revision();
     source.close(&rt);
-    assert_eq!(rt;
-        empty,
-        Some(UpdateError::Text(base64ct::Error::InvalidLength))
-    );
-    assert_eq!(rt; (seen, applied, latest), ((7, Some(Look::Looked)), true, 8));
-    Ok(())
+    let refusal = UpdateError::Text(base64ct::Error::InvalidLength);
+    same(&rt, "a refusal", &empty, &Some(refusal));
+    same(&rt, "seen", &seen, &(7, Some(Look::Looked)));
+    same(&rt, "applied", &(applied, latest), &(true, 8));
 }
 
 // The revision of a receipt, its default identity, how many identities, and the reason of a withdrawal.
@@ -112,9 +113,13 @@ fn apply_both<R: Wait>(
 }
 
 #[test]
-fn states_are_shown_whole(rt: HostRuntime) -> Result<(), Fail> {
-    let domain = TrustDomain::new(rt.alloc(), "example.org")?;
-    let (mut source, _reader) = opened(&rt, rt.alloc(), 0)?;
+fn states_are_shown_whole(rt: HostRuntime) {
+    let domain = good(
+        &rt,
+        "a trust domain",
+        TrustDomain::new(rt.alloc(), "example.org"),
+    );
+    let (mut source, _reader) = good(&rt, "a source", opened(&rt, rt.alloc(), 0));
     let applied = apply_both(&rt, &mut source);
     let state = source.latest();
     let listed = (state.bundles().len(), state.bundle_set().len());
@@ -122,11 +127,15 @@ fn states_are_shown_whole(rt: HostRuntime) -> Result<(), Fail> {
         .bundle_for_trust_domain(&domain)
         .is_ok_and(|bundle| bundle.is_some());
     source.close(&rt);
-    let (granted, withdrawn) = applied?;
-    assert_eq!(rt; shape(&granted), (1, Some(true), 1, None));
-    assert_eq!(rt; shape(&withdrawn), (2, None, 0, Some("gone")));
-    assert_eq!(rt; (listed, found), ((1, 1), true));
-    Ok(())
+    let (granted, withdrawn) = good(&rt, "two receipts", applied);
+    same(&rt, "granted", &shape(&granted), &(1, Some(true), 1, None));
+    same(
+        &rt,
+        "withdrawn",
+        &shape(&withdrawn),
+        &(2, None, 0, Some("gone")),
+    );
+    same(&rt, "bundles", &(listed, found), &((1, 1), true));
 }
 
 // What a reader of an opening state says before and after its first look.
@@ -136,9 +145,10 @@ fn is_fresh(reader: &mut IdentityReader) -> bool {
 }
 
 #[test]
-fn readers_are_live(rt: HostRuntime) -> Result<(), Fail> {
+fn readers_are_live(rt: HostRuntime) {
     for count in [1, 8, 64] {
-        let (source, mut readers) = IdentitySource::open(&rt, rt.alloc(), 0, count)?;
+        let open = IdentitySource::open(&rt, rt.alloc(), 0, count);
+        let (source, mut readers) = good(&rt, "a source", open);
         let mut fresh = readers.len() == count;
         for reader in readers.iter_mut() {
             fresh = is_fresh(reader) && fresh;
@@ -146,7 +156,6 @@ fn readers_are_live(rt: HostRuntime) -> Result<(), Fail> {
         source.close(&rt);
         assert!(rt; fresh, "{count} readers");
     }
-    Ok(())
 }
 
 // The reader is told of the later receipt first.
@@ -173,17 +182,20 @@ fn apply_three<R: Wait>(
 }
 
 #[test]
-fn earlier_receipt_takes_nothing_back(rt: HostRuntime) -> Result<(), Fail> {
-    let (mut source, mut reader) = opened(&rt, rt.alloc(), 0)?;
+fn earlier_receipt_takes_nothing_back(rt: HostRuntime) {
+    let (mut source, mut reader) = opened(&rt, rt.alloc(), 0).expect(&rt, "a source");
     let told = apply_three(&rt, &mut source, &mut reader);
     source.close(&rt);
-    assert_eq!(rt; told?, (3, Some(Look::Looked)));
-    assert_eq!(rt; is_granted(reader.current()), Some(true));
-    assert_eq!(rt;
-        answer(&mut reader),
-        (3, Some(Look::Missed(Missed::NoGuard)))
+    let told = good(&rt, "three receipts", told);
+    same(&rt, "told", &told, &(3, Some(Look::Looked)));
+    same(&rt, "granted", &is_granted(reader.current()), &Some(true));
+    let seen = answer(&mut reader);
+    same(
+        &rt,
+        "seen",
+        &seen,
+        &(3, Some(Look::Missed(Missed::NoGuard))),
     );
-    Ok(())
 }
 
 // Two readers are told of one update each.
@@ -209,16 +221,16 @@ fn is_told(reader: &mut IdentityReader) -> bool {
 }
 
 #[test]
-fn told_readers_answer_from_the_receipt(rt: HostRuntime) -> Result<(), Fail> {
-    let (mut source, mut readers) = IdentitySource::open(&rt, rt.alloc(), 0, 2)?;
+fn told_readers_answer_from_the_receipt(rt: HostRuntime) {
+    let open = IdentitySource::open(&rt, rt.alloc(), 0, 2);
+    let (mut source, mut readers) = open.expect(&rt, "a source");
     let mut first = readers.pop().unwrap();
     let mut second = readers.pop().unwrap();
     let applied = tell_two(&rt, &mut source, &mut first, &mut second);
     let told = is_told(&mut first) && is_told(&mut second) && is_told(&mut first);
     source.close(&rt);
-    applied?;
+    good(&rt, "a receipt", applied);
     assert!(rt; told);
-    Ok(())
 }
 
 // A share of the first of 101 states, which is held while the others are applied.
@@ -247,39 +259,44 @@ fn hold_and_tell<R: Wait>(
 }
 
 #[test]
-fn held_snapshots(rt: HostRuntime) -> Result<(), Fail> {
-    let (mut source, mut reader) = opened(&rt, rt.alloc(), 0)?;
+fn held_snapshots(rt: HostRuntime) {
+    let (mut source, mut reader) = opened(&rt, rt.alloc(), 0).expect(&rt, "a source");
     let held = hold_and_tell(&rt, &mut source, &mut reader);
     let seen = answer(&mut reader);
     source.close(&rt);
-    assert_eq!(rt; held?, (1, Some(true)));
-    assert_eq!(rt; seen, (101, Some(Look::Looked)));
-    Ok(())
+    same(&rt, "held", &good(&rt, "a share", held), &(1, Some(true)));
+    same(&rt, "seen", &seen, &(101, Some(Look::Looked)));
 }
 
 #[test]
-fn closed_source_leaves_its_readers(rt: HostRuntime) -> Result<(), Fail> {
-    let (source, mut reader) = opened(&rt, rt.alloc(), 4)?;
+fn closed_source_leaves_its_readers(rt: HostRuntime) {
+    let (source, mut reader) = good(&rt, "a source", opened(&rt, rt.alloc(), 4));
     source.close(&rt);
-    assert_eq!(rt;
-        answer(&mut reader),
-        (4, Some(Look::Missed(Missed::NoGuard)))
+    let seen = answer(&mut reader);
+    same(
+        &rt,
+        "seen",
+        &seen,
+        &(4, Some(Look::Missed(Missed::NoGuard))),
     );
     assert!(rt; reader.live());
-    Ok(())
 }
 
 #[test]
-fn missed_look_gives_the_kept_state(rt: HostRuntime) -> Result<(), Fail> {
-    let failing = vec![in rt.alloc(); 0]?;
-    let (mut source, reader) = opened(&rt, rt.alloc(), 0)?;
+fn missed_look_gives_the_kept_state(rt: HostRuntime) {
+    let failing = good(&rt, "memory", vec![in rt.alloc(); 0]);
+    let (mut source, reader) = good(&rt, "a source", opened(&rt, rt.alloc(), 0));
     let mut reader = reader.with_misses(failing);
     let applied = source.apply(&rt, GRANTED, WIDTH).is_ok();
     let first = answer(&mut reader);
     let second = answer(&mut reader);
     source.close(&rt);
-    assert_eq!(rt; applied, true);
-    assert_eq!(rt; first, (0, Some(Look::Missed(Missed::NoGuard))));
-    assert_eq!(rt; second, (1, Some(Look::Looked)));
-    Ok(())
+    assert!(rt; applied);
+    same(
+        &rt,
+        "first",
+        &first,
+        &(0, Some(Look::Missed(Missed::NoGuard))),
+    );
+    same(&rt, "second", &second, &(1, Some(Look::Looked)));
 }

@@ -5,9 +5,10 @@ use pkcs8::{DecodePrivateKey, PrivateKeyInfoOwned};
 use spiffe_id::{SpiffeId, TrustDomain};
 use spki::{DecodePublicKey, SubjectPublicKeyInfoOwned};
 use std::alloc::Global;
+use std::process::Abort;
 use std::sync::Wait;
-use std::test::Fail;
 use std::thread;
+use test_checks::{good, same};
 
 // An Ed25519 key pair (RFC 8410, sections 4 and 7), without regard to its arithmetic: the head of each document, and 32 bytes.
 const PRIVATE_HEAD: [u8; 16] = [
@@ -16,29 +17,44 @@ const PRIVATE_HEAD: [u8; 16] = [
 
 const PUBLIC_HEAD: [u8; 12] = [0x30, 0x2a, 0x30, 5, 6, 3, 0x2b, 0x65, 0x70, 3, 0x21, 0];
 
-fn document(alloc: Global, head: &[u8]) -> Result<Vec<u8>, Fail> {
-    let mut document = Vec::from_slice(alloc, head)?;
-    document.extend_from_slice(&[0x11; 32])?;
-    Ok(document)
+fn document(rt: &impl Abort, alloc: Global, head: &[u8]) -> Vec<u8> {
+    let mut document = good(rt, "memory", Vec::from_slice(alloc, head));
+    good(rt, "memory", document.extend_from_slice(&[0x11; 32]));
+    document
+}
+
+fn entry(rt: &impl Abort, alloc: Global, id: &str) -> EntryParts {
+    let private_key = document(rt, alloc, &PRIVATE_HEAD);
+    let private_key = PrivateKeyInfoOwned::from_pkcs8_der(alloc, &private_key);
+    let public_key = document(rt, alloc, &PUBLIC_HEAD);
+    let public_key = SubjectPublicKeyInfoOwned::from_public_key_der(alloc, &public_key);
+    EntryParts {
+        id: good(rt, "an id", SpiffeId::new(alloc, id)),
+        private_key: good(rt, "a private key", private_key),
+        public_key: good(rt, "a public key", public_key),
+    }
+}
+
+fn bundle(rt: &impl Abort, alloc: Global) -> BundleParts {
+    BundleParts {
+        trust_domain: good(rt, "a trust domain", TrustDomain::new(alloc, "example.org")),
+        jwks: good(rt, "memory", Vec::from_slice(alloc, b"{\"keys\":[]}")),
+    }
 }
 
 // The text of an update whose one identity has the path `/number`.
-fn numbered(alloc: Global, number: u64) -> Result<String, Fail> {
-    let id = format!(in alloc; "spiffe://example.org/{number}")?;
-    let entry = EntryParts {
-        id: SpiffeId::new(alloc, id.as_str())?,
-        private_key: PrivateKeyInfoOwned::from_pkcs8_der(alloc, &document(alloc, &PRIVATE_HEAD)?)?,
-        public_key: SubjectPublicKeyInfoOwned::from_public_key_der(
-            alloc,
-            &document(alloc, &PUBLIC_HEAD)?,
-        )?,
-    };
-    let bundle = BundleParts {
-        trust_domain: TrustDomain::new(alloc, "example.org")?,
-        jwks: Vec::from_slice(alloc, b"{\"keys\":[]}")?,
-    };
-    let update = Update::from_parts(alloc, vec![in alloc; entry]?, vec![in alloc; bundle]?)?;
-    Ok(update.to_text(alloc, 64, LineEnding::LF)?)
+fn numbered(rt: &impl Abort, alloc: Global, number: u64) -> String {
+    let id = good(
+        rt,
+        "memory",
+        format!(in alloc; "spiffe://example.org/{number}"),
+    );
+    let entry = entry(rt, alloc, id.as_str());
+    let entries = good(rt, "memory", vec![in alloc; entry]);
+    let bundle = bundle(rt, alloc);
+    let bundles = good(rt, "memory", vec![in alloc; bundle]);
+    let update = good(rt, "an update", Update::from_parts(alloc, entries, bundles));
+    good(rt, "a text", update.to_text(alloc, 64, LineEnding::LF))
 }
 
 fn apply_all<R: Wait>(rt: &R, source: &mut IdentitySource, texts: &[String]) -> bool {
@@ -67,13 +83,14 @@ fn are_whole(alloc: Global, mut reader: IdentityReader) -> bool {
 }
 
 #[test]
-fn whole_states(rt: HostRuntime) -> Result<(), Fail> {
+fn whole_states(rt: HostRuntime) {
     let alloc = rt.alloc();
     let mut texts = Vec::new(alloc);
     for number in 1..201 {
-        texts.push(numbered(alloc, number)?)?;
+        good(&rt, "memory", texts.push(numbered(&rt, alloc, number)));
     }
-    let (mut source, readers) = IdentitySource::open(&rt, alloc, 0, 4)?;
+    let open = IdentitySource::open(&rt, alloc, 0, 4);
+    let (mut source, readers) = good(&rt, "a source", open);
     let (applied, whole) = thread::join(
         &rt,
         || apply_all(&rt, &mut source, &texts),
@@ -81,9 +98,8 @@ fn whole_states(rt: HostRuntime) -> Result<(), Fail> {
     );
     let last = source.latest().revision();
     source.close(&rt);
-    assert_eq!(rt; (applied, last), (true, 200));
-    for whole in whole? {
+    same(&rt, "applied", &(applied, last), &(true, 200));
+    for whole in good(&rt, "four readers", whole) {
         assert!(rt; whole);
     }
-    Ok(())
 }

@@ -7,6 +7,7 @@ use spiffe_id::TrustDomain;
 use spiffe_json::JsonError;
 use std::alloc::Global;
 use std::process::Abort;
+use test_checks::{good, same, same_text, some};
 
 const KEYS: &str = "{\"kty\":\"oct\",\"kid\":\"a\"} = {\"kid\":\"a\",\"kty\":\"oct\"}
 { \"z\" : -3, \"kid\" : \"k\", \"z\" : [ 1, {} ] } = {\"kid\":\"k\",\"z\":[1,{}]}
@@ -38,32 +39,36 @@ const SETS: &str = "{\"keys\": []} =
 { = Deserialize(Syntax)";
 
 fn key_or_rule(rt: &impl Abort, alloc: Global, json: &str) -> String {
-    match JwtAuthority::from_jwk_json(alloc, json.as_bytes()) {
+    let text = match JwtAuthority::from_jwk_json(alloc, json.as_bytes()) {
         Ok(key) => String::from_utf8_lossy(alloc, key.jwk_json()),
         Err(rule) => format!(in alloc; "{rule:?}"),
-    }
-    .expect(rt, "memory")
+    };
+    good(rt, "memory", text)
 }
 
 // The JSON of all authorities, one after another.
 fn bundle_text(rt: &impl Abort, alloc: Global, bundle: &JwtBundle) -> String {
     let mut text = String::new(alloc);
     for authority in bundle.jwt_authorities() {
-        let json = String::from_utf8_lossy(alloc, authority.jwk_json()).expect(rt, "memory");
-        text.push_str(json.as_str()).expect(rt, "memory");
+        let json = good(
+            rt,
+            "memory",
+            String::from_utf8_lossy(alloc, authority.jwk_json()),
+        );
+        good(rt, "memory", text.push_str(json.as_str()));
     }
     text
 }
 
 fn domain(rt: &impl Abort, alloc: Global, name: &str) -> TrustDomain {
-    TrustDomain::new(alloc, name).expect(rt, "a trust domain")
+    good(rt, "a trust domain", TrustDomain::new(alloc, name))
 }
 
 fn keys_or_rule(rt: &impl Abort, alloc: Global, jwks: &str) -> String {
     let domain = domain(rt, alloc, "domain.test");
     match JwtBundle::from_jwt_authorities(alloc, domain, jwks.as_bytes()) {
         Ok(bundle) => bundle_text(rt, alloc, &bundle),
-        Err(rule) => format!(in alloc; "{rule:?}").expect(rt, "memory"),
+        Err(rule) => good(rt, "memory", format!(in alloc; "{rule:?}")),
     }
 }
 
@@ -71,16 +76,20 @@ fn keys_or_rule(rt: &impl Abort, alloc: Global, jwks: &str) -> String {
 fn set_text(rt: &impl Abort, alloc: Global, set: &JwtBundleSet) -> String {
     let mut text = String::new(alloc);
     for (domain, bundle) in set.iter() {
-        text.push_str(domain.as_str()).expect(rt, "memory");
+        good(rt, "memory", text.push_str(domain.as_str()));
         let authorities = bundle_text(rt, alloc, bundle);
-        text.push_str(authorities.as_str()).expect(rt, "memory");
+        good(rt, "memory", text.push_str(authorities.as_str()));
     }
     text
 }
 
 fn bundle_of(rt: &impl Abort, alloc: Global, name: &str, jwks: &str) -> JwtBundle {
     let domain = domain(rt, alloc, name);
-    JwtBundle::from_jwt_authorities(alloc, domain, jwks.as_bytes()).expect(rt, "a key set")
+    good(
+        rt,
+        "a key set",
+        JwtBundle::from_jwt_authorities(alloc, domain, jwks.as_bytes()),
+    )
 }
 
 // Whether a source, of which only its contract is known, has a bundle for the trust domain.
@@ -101,10 +110,13 @@ fn hundred(rt: &impl Abort, alloc: Global, step: u32) -> JwtBundleSet
 {
     let mut set = JwtBundleSet::new(alloc);
     for i in 0u32..100 {
-        let name = format!(in alloc; "d{}.test", 100 + i * step % 100).expect(rt, "memory");
+        let name = good(
+            rt,
+            "memory",
+            format!(in alloc; "d{}.test", 100 + i * step % 100),
+        );
         let domain = domain(rt, alloc, name.as_str());
-        set.add_bundle(JwtBundle::new(alloc, domain))
-            .expect(rt, "memory");
+        good(rt, "memory", set.add_bundle(JwtBundle::new(alloc, domain)));
     }
     set
 }
@@ -112,11 +124,12 @@ fn hundred(rt: &impl Abort, alloc: Global, step: u32) -> JwtBundleSet
 #[test]
 fn keys(rt: HostRuntime) {
     for row in KEYS.lines() {
-        let (json, wanted) = row.split_once(" = ").expect(&rt, "an answer");
-        assert_eq!(rt;
+        let (json, wanted) = some(&rt, "an answer", row.split_once(" = "));
+        same_text(
+            &rt,
+            row,
             key_or_rule(&rt, rt.alloc(), json).as_str(),
             wanted,
-            "{row}"
         );
     }
 }
@@ -124,11 +137,12 @@ fn keys(rt: HostRuntime) {
 #[test]
 fn key_sets(rt: HostRuntime) {
     for row in SETS.lines() {
-        let (jwks, wanted) = row.split_once(" = ").expect(&rt, "an answer");
-        assert_eq!(rt;
+        let (jwks, wanted) = some(&rt, "an answer", row.split_once(" = "));
+        same_text(
+            &rt,
+            row,
             keys_or_rule(&rt, rt.alloc(), jwks).as_str(),
             wanted,
-            "{row}"
         );
     }
 }
@@ -137,9 +151,9 @@ const KEY: &[u8] = b"{\"kty\":\"oct\",\"kid\":\"a\"}";
 
 fn with_one_key(rt: &impl Abort, alloc: Global) -> JwtBundle {
     let mut bundle = JwtBundle::new(alloc, domain(rt, alloc, "domain.test"));
-    let authority = JwtAuthority::from_jwk_json(alloc, KEY).expect(rt, "a key");
-    bundle.add_jwt_authority(authority).expect(rt, "memory");
-    bundle.add_jwk_authority_json(KEY).expect(rt, "a key");
+    let authority = good(rt, "a key", JwtAuthority::from_jwk_json(alloc, KEY));
+    good(rt, "memory", bundle.add_jwt_authority(authority));
+    good(rt, "a key", bundle.add_jwk_authority_json(KEY));
     bundle
 }
 
@@ -148,11 +162,16 @@ fn bundles(rt: HostRuntime) {
     let alloc = rt.alloc();
     let bundle = with_one_key(&rt, alloc);
     let text = bundle_text(&rt, alloc, &bundle);
-    assert_eq!(rt; text.as_str(), "{\"kid\":\"a\",\"kty\":\"oct\"}");
-    assert_eq!(rt; bundle.trust_domain().as_str(), "domain.test");
+    same_text(
+        &rt,
+        "keys",
+        text.as_str(),
+        "{\"kid\":\"a\",\"kty\":\"oct\"}",
+    );
+    same_text(&rt, "domain", bundle.trust_domain().as_str(), "domain.test");
     assert!(rt; bundle.find_jwt_authority("b").is_none());
-    let found = bundle.find_jwt_authority("a").expect(&rt, "an authority");
-    assert_eq!(rt; found.key_id(), "a");
+    let found = some(&rt, "an authority", bundle.find_jwt_authority("a"));
+    same_text(&rt, "key id", found.key_id(), "a");
     assert!(rt; found.try_clone(alloc).is_ok_and(|copy| copy == **found));
     assert!(rt; bundle.try_clone(alloc).is_ok_and(|copy| copy == bundle));
 }
@@ -164,7 +183,7 @@ fn replaced(rt: &impl Abort, alloc: Global) -> JwtBundleSet {
         "{\"keys\":[{\"kid\":\"kid-new\"}]}",
     ] {
         let bundle = bundle_of(rt, alloc, "replace.test", keys);
-        set.add_bundle(bundle).expect(rt, "memory");
+        good(rt, "memory", set.add_bundle(bundle));
     }
     set
 }
@@ -175,9 +194,8 @@ fn pair(rt: &impl Abort, alloc: Global) -> Vec<JwtBundle> {
         ("b.test", "{\"keys\":[]}"),
         ("a.test", "{\"keys\":[{\"kid\":\"k\"}]}"),
     ] {
-        bundles
-            .push(bundle_of(rt, alloc, name, keys))
-            .expect(rt, "memory");
+        let bundle = bundle_of(rt, alloc, name, keys);
+        good(rt, "memory", bundles.push(bundle));
     }
     bundles
 }
@@ -187,29 +205,43 @@ fn sets(rt: HostRuntime) {
     let alloc = rt.alloc();
     assert!(rt; JwtBundleSet::new(alloc).is_empty());
     let mut set = replaced(&rt, alloc);
-    assert_eq!(rt; set.len(), 1);
+    same(&rt, "replaced", &set.len(), &1);
     let text = set_text(&rt, alloc, &set);
-    assert_eq!(rt; text.as_str(), "replace.test{\"kid\":\"kid-new\"}");
-    set.try_extend(pair(&rt, alloc)).expect(&rt, "memory");
-    assert_eq!(rt; set.len(), 3);
+    same_text(
+        &rt,
+        "replaced",
+        text.as_str(),
+        "replace.test{\"kid\":\"kid-new\"}",
+    );
+    good(&rt, "memory", set.try_extend(pair(&rt, alloc)));
+    same(&rt, "extended", &set.len(), &3);
     let text = set_text(&rt, alloc, &set);
     let shown = "a.test{\"kid\":\"k\"}b.testreplace.test{\"kid\":\"kid-new\"}";
-    assert_eq!(rt; text.as_str(), shown);
+    same_text(&rt, "extended", text.as_str(), shown);
 }
 
 #[test]
 fn looking_up(rt: HostRuntime) {
     let alloc = rt.alloc();
-    let set = JwtBundleSet::try_from_bundles(alloc, pair(&rt, alloc)).expect(&rt, "memory");
-    assert_eq!(rt; set.len(), 2);
+    let set = good(
+        &rt,
+        "memory",
+        JwtBundleSet::try_from_bundles(alloc, pair(&rt, alloc)),
+    );
+    same(&rt, "a pair", &set.len(), &2);
     assert!(rt; set.try_clone(alloc).is_ok_and(|copy| copy == set));
     for (name, is_there) in [("A.test", true), ("c.test", false)] {
         let domain = domain(&rt, alloc, name);
-        let shared = set.get(&domain).expect(&rt, "a share");
-        assert_eq!(rt; shared.is_some(), is_there);
-        assert_eq!(rt; set.get_ref(&domain).is_some(), is_there);
-        assert_eq!(rt; set.bundle_for(&domain).is_some(), is_there);
-        assert_eq!(rt; has_bundle(&set, &domain), is_there);
+        let shared = good(&rt, "a share", set.get(&domain));
+        same(&rt, "get", &shared.is_some(), &is_there);
+        same(&rt, "get_ref", &set.get_ref(&domain).is_some(), &is_there);
+        same(
+            &rt,
+            "bundle_for",
+            &set.bundle_for(&domain).is_some(),
+            &is_there,
+        );
+        same(&rt, "as a source", &has_bundle(&set, &domain), &is_there);
     }
 }
 
@@ -218,28 +250,32 @@ fn order(rt: HostRuntime) {
     let alloc = rt.alloc();
     let mut ascending = String::new(alloc);
     for n in 100u32..200 {
-        let name = format!(in alloc; "d{n}.test").expect(&rt, "memory");
-        ascending.push_str(name.as_str()).expect(&rt, "memory");
+        let name = good(&rt, "memory", format!(in alloc; "d{n}.test"));
+        good(&rt, "memory", ascending.push_str(name.as_str()));
     }
     for step in [1u32, 37, 99] {
         let set = hundred(&rt, alloc, step % 100);
         let text = set_text(&rt, alloc, &set);
-        assert_eq!(rt; text.as_str(), ascending.as_str(), "{step}");
+        same_text(&rt, "ascending", text.as_str(), ascending.as_str());
     }
 }
 
 // A key set of this many keys, each as long as a 2,048-bit RSA key's.
 fn large_key_set(rt: &impl Abort, alloc: Global, count: u32) -> String {
-    let modulus = "A".repeat(alloc, 342).expect(rt, "memory");
-    let mut text = String::from_str(alloc, "{\"keys\":[{\"kid\":\"\"}").expect(rt, "memory");
+    let modulus = good(rt, "memory", "A".repeat(alloc, 342));
+    let mut text = good(
+        rt,
+        "memory",
+        String::from_str(alloc, "{\"keys\":[{\"kid\":\"\"}"),
+    );
     for i in 0..count {
         let key = format!(in alloc;
             ",{{\"kid\":\"{i}\",\"kty\":\"RSA\",\"n\":\"{modulus}\",\"e\":\"AQAB\"}}"
         );
-        let key = key.expect(rt, "memory");
-        text.push_str(key.as_str()).expect(rt, "memory");
+        let key = good(rt, "memory", key);
+        good(rt, "memory", text.push_str(key.as_str()));
     }
-    text.push_str("]}").expect(rt, "memory");
+    good(rt, "memory", text.push_str("]}"));
     text
 }
 
@@ -248,19 +284,19 @@ fn large_and_deep_key_sets(rt: HostRuntime) {
     let alloc = rt.alloc();
     let jwks = large_key_set(&rt, alloc, 400);
     let bundle = bundle_of(&rt, alloc, "domain.test", jwks.as_str());
-    assert_eq!(rt; bundle.jwt_authorities().count(), 401);
+    same(&rt, "keys", &bundle.jwt_authorities().count(), &401);
     // The set, its array and the key are three of the 127 levels.
     for (levels, is_read) in [(124, true), (125, false)] {
-        let open = "[".repeat(alloc, levels).expect(&rt, "memory");
-        let close = "]".repeat(alloc, levels).expect(&rt, "memory");
+        let open = good(&rt, "memory", "[".repeat(alloc, levels));
+        let close = good(&rt, "memory", "]".repeat(alloc, levels));
         let jwks = format!(in alloc; "{{\"keys\":[{{\"kid\":\"a\",\"x\":{open}{close}}}]}}");
-        let jwks = jwks.expect(&rt, "memory");
+        let jwks = good(&rt, "memory", jwks);
         let read = JwtBundle::from_jwt_authorities(
             alloc,
             domain(&rt, alloc, "domain.test"),
             jwks.as_bytes(),
         );
-        assert_eq!(rt; read.is_ok(), is_read, "{levels}");
+        same(&rt, jwks.as_str(), &read.is_ok(), &is_read);
     }
 }
 
@@ -275,21 +311,28 @@ fn texts(rt: HostRuntime) {
         ),
         (JwtBundleError::OutOfMemory, "out of memory"),
     ] {
-        let shown = format!(in alloc; "{error}").expect(&rt, "memory");
-        assert_eq!(rt; shown.as_str(), text);
+        let shown = good(&rt, "memory", format!(in alloc; "{error}"));
+        same_text(&rt, "an error", shown.as_str(), text);
     }
     let key = JwtAuthority::from_jwk_json(alloc, b"{\"kid\":\"a\"}".as_slice());
-    let debug = format!(in alloc; "{key:?}").expect(&rt, "memory");
-    assert_eq!(rt;
+    let debug = good(&rt, "memory", format!(in alloc; "{key:?}"));
+    same_text(
+        &rt,
+        "a key",
         debug.as_str(),
-        "Ok(JwtAuthority { kid: \"a\", jwk_json: [123, 34, 107, 105, 100, 34, 58, 34, 97, 34, 125] })"
+        "Ok(JwtAuthority { kid: \"a\", jwk_json: [123, 34, 107, 105, 100, 34, 58, 34, 97, 34, 125] })",
     );
     let mut set = JwtBundleSet::new(alloc);
-    set.add_bundle(JwtBundle::new(alloc, domain(&rt, alloc, "a")))
-        .expect(&rt, "memory");
-    let debug = format!(in alloc; "{set:?}").expect(&rt, "memory");
-    assert_eq!(rt;
+    good(
+        &rt,
+        "memory",
+        set.add_bundle(JwtBundle::new(alloc, domain(&rt, alloc, "a"))),
+    );
+    let debug = good(&rt, "memory", format!(in alloc; "{set:?}"));
+    same_text(
+        &rt,
+        "a set",
         debug.as_str(),
-        "JwtBundleSet { bundles: {TrustDomain { name: \"a\" }: JwtBundle { trust_domain: TrustDomain { name: \"a\" }, jwt_authorities: {} }} }"
+        "JwtBundleSet { bundles: {TrustDomain { name: \"a\" }: JwtBundle { trust_domain: TrustDomain { name: \"a\" }, jwt_authorities: {} }} }",
     );
 }

@@ -9,6 +9,7 @@ use spiffe_id::{
 use std::alloc::Global;
 use std::collections::HashMap;
 use std::process::Abort;
+use test_checks::{good, same, same_text, some};
 
 const IDS: &str = "spiffe://example.org = spiffe://example.org
 spiffe://trustdomain/path1 = spiffe://trustdomain/path1
@@ -97,58 +98,59 @@ const TOO_LONG_DOMAIN: &str = "TrustDomainTooLong { max: 255 }";
 const TOO_LONG_ID: &str = "SpiffeIdTooLong { max: 2048 }";
 
 fn id_or_rule(rt: &impl Abort, alloc: Global, text: &str) -> String {
-    match SpiffeId::new(alloc, text) {
+    let answer = match SpiffeId::new(alloc, text) {
         Ok(id) => format!(in alloc; "{id}"),
         Err(rule) => format!(in alloc; "{rule:?}"),
-    }
-    .expect(rt, "memory")
+    };
+    good(rt, "memory", answer)
 }
 
 fn domain_or_rule(rt: &impl Abort, alloc: Global, text: &str) -> String {
-    match TrustDomain::new(alloc, text) {
+    let answer = match TrustDomain::new(alloc, text) {
         Ok(domain) => format!(in alloc; "{domain}"),
         Err(rule) => format!(in alloc; "{rule:?}"),
-    }
-    .expect(rt, "memory")
+    };
+    good(rt, "memory", answer)
 }
 
 fn made_or_rule(rt: &impl Abort, alloc: Global, domain: &str, segments: &[String]) -> String {
-    let domain = TrustDomain::new(alloc, domain).expect(rt, "a trust domain");
-    match SpiffeId::from_segments(alloc, domain, segments) {
+    let domain = good(rt, "a trust domain", TrustDomain::new(alloc, domain));
+    let answer = match SpiffeId::from_segments(alloc, domain, segments) {
         Ok(id) => format!(in alloc; "{id}"),
         Err(rule) => format!(in alloc; "{rule:?}"),
-    }
-    .expect(rt, "memory")
+    };
+    good(rt, "memory", answer)
 }
 
 // This many times the segment `a`, and then one more.
 fn long_list(rt: &impl Abort, alloc: Global, count: u32, last: &str) -> Vec<String> {
     let mut segments = Vec::new(alloc);
     for _ in 0..count {
-        let segment = String::from_str(alloc, "a").expect(rt, "memory");
-        segments.push(segment).expect(rt, "memory");
+        let segment = good(rt, "memory", String::from_str(alloc, "a"));
+        good(rt, "memory", segments.push(segment));
     }
-    let segment = String::from_str(alloc, last).expect(rt, "memory");
-    segments.push(segment).expect(rt, "memory");
+    let segment = good(rt, "memory", String::from_str(alloc, last));
+    good(rt, "memory", segments.push(segment));
     segments
 }
 
 #[test]
 fn ids(rt: HostRuntime) {
     for row in IDS.lines() {
-        let (text, wanted) = row.split_once(" = ").expect(&rt, "an answer");
-        assert_eq!(rt; id_or_rule(&rt, rt.alloc(), text).as_str(), wanted, "{row}");
+        let (text, wanted) = some(&rt, "an answer", row.split_once(" = "));
+        same_text(&rt, row, id_or_rule(&rt, rt.alloc(), text).as_str(), wanted);
     }
 }
 
 #[test]
 fn trust_domains(rt: HostRuntime) {
     for row in DOMAINS.lines() {
-        let (text, wanted) = row.split_once(" = ").expect(&rt, "an answer");
-        assert_eq!(rt;
+        let (text, wanted) = some(&rt, "an answer", row.split_once(" = "));
+        same_text(
+            &rt,
+            row,
             domain_or_rule(&rt, rt.alloc(), text).as_str(),
             wanted,
-            "{row}"
         );
     }
 }
@@ -163,15 +165,15 @@ fn long_trust_domains(rt: HostRuntime) {
         ("http://", "a", 256, "", "WrongScheme"),
         ("", "a", 256, ":/x", "WrongScheme"),
     ] {
-        let name = byte.repeat(alloc, count).expect(&rt, "memory");
-        let text = format!(in alloc; "{before}{name}{after}").expect(&rt, "memory");
+        let name = good(&rt, "memory", byte.repeat(alloc, count));
+        let text = good(&rt, "memory", format!(in alloc; "{before}{name}{after}"));
         let answer = domain_or_rule(&rt, alloc, text.as_str());
         let wanted = if wanted.is_empty() {
             text.as_str()
         } else {
             wanted
         };
-        assert_eq!(rt; answer.as_str(), wanted, "{text}");
+        same_text(&rt, text.as_str(), answer.as_str(), wanted);
     }
 }
 
@@ -190,10 +192,10 @@ fn ids_of_long_trust_domains(rt: HostRuntime) {
             ("spiffe://", "?", 256, TOO_LONG_DOMAIN),
             ("http://", "?", 256, "WrongScheme"),
         ] {
-            let name = byte.repeat(alloc, count).expect(&rt, "memory");
-            let text = format!(in alloc; "{before}{name}{path}").expect(&rt, "memory");
+            let name = good(&rt, "memory", byte.repeat(alloc, count));
+            let text = good(&rt, "memory", format!(in alloc; "{before}{name}{path}"));
             let answer = id_or_rule(&rt, alloc, text.as_str());
-            assert_eq!(rt; answer.as_str(), wanted, "{text}");
+            same_text(&rt, text.as_str(), answer.as_str(), wanted);
         }
     }
 }
@@ -202,14 +204,14 @@ fn ids_of_long_trust_domains(rt: HostRuntime) {
 fn segments(rt: HostRuntime) {
     let alloc = rt.alloc();
     for row in SEGMENTS.lines() {
-        let (list, wanted) = row.split_once(" = ").expect(&rt, "an answer");
+        let (list, wanted) = some(&rt, "an answer", row.split_once(" = "));
         let mut segments = Vec::new(alloc);
         for segment in list.split(',') {
-            let segment = String::from_str(alloc, segment).expect(&rt, "memory");
-            segments.push(segment).expect(&rt, "memory");
+            let segment = good(&rt, "memory", String::from_str(alloc, segment));
+            good(&rt, "memory", segments.push(segment));
         }
         let answer = made_or_rule(&rt, alloc, "trustdomain", &segments);
-        assert_eq!(rt; answer.as_str(), wanted, "{row}");
+        same_text(&rt, row, answer.as_str(), wanted);
     }
 }
 
@@ -234,34 +236,32 @@ fn long_ids(rt: HostRuntime) {
     }
     let none = Vec::new(alloc);
     let alone = made_or_rule(&rt, alloc, "example.org", &none);
-    assert_eq!(rt; alone.as_str(), "spiffe://example.org");
+    same_text(&rt, "no segment", alone.as_str(), "spiffe://example.org");
 }
 
 // The text of an id that is read has no limit.
 #[test]
 fn long_texts(rt: HostRuntime) {
     let alloc = rt.alloc();
-    let path = "/a".repeat(alloc, 100_000).expect(&rt, "memory");
-    let text = format!(in alloc; "spiffe://a{path}").expect(&rt, "memory");
-    assert_eq!(rt;
-        id_or_rule(&rt, alloc, text.as_str()).as_str(),
-        text.as_str()
-    );
+    let path = good(&rt, "memory", "/a".repeat(alloc, 100_000));
+    let text = good(&rt, "memory", format!(in alloc; "spiffe://a{path}"));
+    let answer = id_or_rule(&rt, alloc, text.as_str());
+    same_text(&rt, "a long text", answer.as_str(), text.as_str());
 }
 
 fn read(rt: &impl Abort, alloc: Global, text: &str) -> SpiffeId {
-    SpiffeId::new(alloc, text).expect(rt, "an id")
+    good(rt, "an id", SpiffeId::new(alloc, text))
 }
 
 #[test]
 fn accessors(rt: HostRuntime) {
     let alloc = rt.alloc();
     let id = read(&rt, alloc, "SPIFFE://A/B");
-    assert_eq!(rt; id.trust_domain_name(), "a");
-    assert_eq!(rt; id.path(), "/B");
-    assert_eq!(rt; id.trust_domain().as_str(), "a");
-    let text = id.trust_domain().id_string(alloc).expect(&rt, "memory");
-    assert_eq!(rt; text.as_str(), "spiffe://a");
+    same_text(&rt, "name", id.trust_domain_name(), "a");
+    same_text(&rt, "path", id.path(), "/B");
+    same_text(&rt, "domain", id.trust_domain().as_str(), "a");
+    let text = good(&rt, "memory", id.trust_domain().id_string(alloc));
+    same_text(&rt, "id", text.as_str(), "spiffe://a");
 }
 
 #[test]
@@ -269,11 +269,11 @@ fn printed_ids(rt: HostRuntime) {
     let alloc = rt.alloc();
     let id = read(&rt, alloc, "SPIFFE://A/B");
     let domain = id.trust_domain();
-    let debug = format!(in alloc; "{id:?}").expect(&rt, "memory");
+    let debug = good(&rt, "memory", format!(in alloc; "{id:?}"));
     let shown = "SpiffeId { trust_domain: TrustDomain { name: \"a\" }, path: \"/B\" }";
-    assert_eq!(rt; debug.as_str(), shown);
-    let padded = format!(in alloc; "{id:20}|{domain:5.0}|").expect(&rt, "memory");
-    assert_eq!(rt; padded.as_str(), "spiffe://a/B|a|");
+    same_text(&rt, "debug", debug.as_str(), shown);
+    let padded = good(&rt, "memory", format!(in alloc; "{id:20}|{domain:5.0}|"));
+    same_text(&rt, "padded", padded.as_str(), "spiffe://a/B|a|");
 }
 
 // An id is equal to its copy and to what is read back of it, and so is its trust domain.
@@ -296,11 +296,16 @@ fn comparisons(rt: HostRuntime) {
     let other = read(&rt, alloc, "spiffe://a/b");
     assert!(rt; id < other);
     assert!(rt; id.is_member_of(other.trust_domain()));
-    assert_eq!(rt; have_same_text(alloc, &id, &other).ok(), Some(false));
+    same(
+        &rt,
+        "texts",
+        &have_same_text(alloc, &id, &other).ok(),
+        &Some(false),
+    );
     let mut places = HashMap::new(alloc);
     let before = places.insert(other, 2);
-    assert_eq!(rt; before.ok(), Some(None));
-    assert_eq!(rt; places.get(&id), None);
+    same(&rt, "before", &before.ok(), &Some(None));
+    assert!(rt; places.get(&id).is_none());
 }
 
 #[test]
@@ -312,12 +317,12 @@ fn names(rt: HostRuntime) {
         ("http://spiffe://domain.test", false),
         ("", false),
     ] {
-        assert_eq!(rt; uri_has_spiffe_scheme(uri), has);
+        same(&rt, uri, &uri_has_spiffe_scheme(uri), &has);
     }
-    assert_eq!(rt; SPIFFE_SCHEME, "spiffe");
-    assert_eq!(rt; SPIFFE_SCHEME_PREFIX, "spiffe://");
-    assert_eq!(rt; SPIFFE_SOCKET_ENV, "SPIFFE_ENDPOINT_SOCKET");
-    assert_eq!(rt; DEFAULT_SVID, 0);
+    same_text(&rt, "scheme", SPIFFE_SCHEME, "spiffe");
+    same_text(&rt, "prefix", SPIFFE_SCHEME_PREFIX, "spiffe://");
+    same_text(&rt, "variable", SPIFFE_SOCKET_ENV, "SPIFFE_ENDPOINT_SOCKET");
+    same(&rt, "default", &DEFAULT_SVID, &0);
 }
 
 #[test]
@@ -356,7 +361,7 @@ fn error_texts(rt: HostRuntime) {
         ),
         (SpiffeIdError::OutOfMemory, "out of memory"),
     ] {
-        let shown = format!(in rt.alloc(); "{error}").expect(&rt, "memory");
-        assert_eq!(rt; shown.as_str(), text);
+        let shown = good(&rt, "memory", format!(in rt.alloc(); "{error}"));
+        same_text(&rt, "an error", shown.as_str(), text);
     }
 }

@@ -4,6 +4,7 @@
 use spiffe_json::{JsonError, ReadError, read_json};
 use std::alloc::Global;
 use std::process::Abort;
+use test_checks::{good, same_text, some};
 
 const NUMBERS: &str = "0 read read
 -1 read read
@@ -20,27 +21,27 @@ const NUMBERS: &str = "0 read read
 01 Json(Syntax) Json(Syntax)";
 
 fn answer(rt: &impl Abort, alloc: Global, text: &[u8]) -> String {
-    match read_json(alloc, text) {
+    let answer = match read_json(alloc, text) {
         Ok(_) => String::from_str(alloc, "read"),
         Err(e) => format!(in alloc; "{e:?}"),
-    }
-    .expect(rt, "memory")
+    };
+    good(rt, "memory", answer)
 }
 
 #[test]
 fn numbers(rt: HostRuntime) {
     let alloc = rt.alloc();
     for row in NUMBERS.lines() {
-        let (number, answers) = row.split_once(" ").expect(&rt, "answers");
-        let (wanted, if_replaced) = answers.split_once(" ").expect(&rt, "two answers");
+        let (number, answers) = some(&rt, "answers", row.split_once(" "));
+        let (wanted, if_replaced) = some(&rt, "two answers", answers.split_once(" "));
         for (before, after, wanted) in [
             ("", "", wanted),
             ("{\"kid\":\"a\",\"x\":[[],{\"y\":", "}]}", wanted),
             ("{\"x\":", ",\"x\":1}", if_replaced),
         ] {
-            let text = format!(in alloc; "{before}{number}{after}").expect(&rt, "memory");
+            let text = good(&rt, "memory", format!(in alloc; "{before}{number}{after}"));
             let found = answer(&rt, alloc, text.as_bytes());
-            assert_eq!(rt; found.as_str(), wanted, "{text}");
+            same_text(&rt, text.as_str(), found.as_str(), wanted);
         }
     }
 }
@@ -54,17 +55,14 @@ fn syntax(rt: HostRuntime) {
         (b"", "Json(Syntax)"),
         (b"{}{}", "Json(Syntax)"),
     ] {
-        assert_eq!(rt; answer(&rt, alloc, text).as_str(), wanted);
+        same_text(&rt, "a text", answer(&rt, alloc, text).as_str(), wanted);
     }
     for (levels, wanted) in [(127, "read"), (128, "Json(Syntax)")] {
-        let open = "[".repeat(alloc, levels).expect(&rt, "memory");
-        let close = "]".repeat(alloc, levels).expect(&rt, "memory");
-        let text = format!(in alloc; "{open}{close}").expect(&rt, "memory");
-        assert_eq!(rt;
-            answer(&rt, alloc, text.as_bytes()).as_str(),
-            wanted,
-            "{levels}"
-        );
+        let open = good(&rt, "memory", "[".repeat(alloc, levels));
+        let close = good(&rt, "memory", "]".repeat(alloc, levels));
+        let text = good(&rt, "memory", format!(in alloc; "{open}{close}"));
+        let found = answer(&rt, alloc, text.as_bytes());
+        same_text(&rt, text.as_str(), found.as_str(), wanted);
     }
 }
 
@@ -72,11 +70,16 @@ fn syntax(rt: HostRuntime) {
 #[test]
 fn large_texts(rt: HostRuntime) {
     let alloc = rt.alloc();
-    let long = "x".repeat(alloc, 1_000_000).expect(&rt, "memory");
-    let many = ",7".repeat(alloc, 500_000).expect(&rt, "memory");
+    let long = good(&rt, "memory", "x".repeat(alloc, 1_000_000));
+    let many = good(&rt, "memory", ",7".repeat(alloc, 500_000));
     let text = format!(in alloc; "{{\"long\":\"{long}\",\"many\":[7{many}]}}");
-    let text = text.expect(&rt, "memory");
-    assert_eq!(rt; answer(&rt, alloc, text.as_bytes()).as_str(), "read");
+    let text = good(&rt, "memory", text);
+    same_text(
+        &rt,
+        "a megabyte",
+        answer(&rt, alloc, text.as_bytes()).as_str(),
+        "read",
+    );
 }
 
 #[test]
@@ -88,7 +91,7 @@ fn texts(rt: HostRuntime) {
         (ReadError::Json(JsonError::Shape), "bad shape"),
         (ReadError::OutOfMemory, "out of memory"),
     ] {
-        let shown = format!(in rt.alloc(); "{error}").expect(&rt, "memory");
-        assert_eq!(rt; shown.as_str(), text);
+        let shown = good(&rt, "memory", format!(in rt.alloc(); "{error}"));
+        same_text(&rt, "an error", shown.as_str(), text);
     }
 }

@@ -1,33 +1,46 @@
 use der_small::{Decode, Encode, Error, FixedTag};
 use pkcs8::{Attributes, AttributesRef};
-use std::test::Fail;
+use test_checks::{good, same, same_bytes};
 
 // A field A0 (RFC 5958, section 2), here with an empty sequence in it.
 const FIELD: [u8; 4] = [0xa0, 2, 0x30, 0];
 
 #[test]
-fn attributes_in_both_forms(rt: HostRuntime) -> Result<(), Fail> {
-    let attributes = AttributesRef::new(&[0x30, 0])?;
-    assert_eq!(rt; attributes.as_bytes(), [0x30, 0].as_slice());
-    let owned = attributes.ref_to_owned(rt.alloc())?;
-    assert_eq!(rt; owned.as_bytes(), [0x30, 0].as_slice());
+fn attributes_in_both_forms(rt: HostRuntime) {
+    let alloc = rt.alloc();
+    let attributes = good(&rt, "attributes", AttributesRef::new(&[0x30, 0]));
+    same_bytes(
+        &rt,
+        "attributes",
+        attributes.as_bytes(),
+        [0x30, 0].as_slice(),
+    );
+    let owned = good(&rt, "memory", attributes.ref_to_owned(alloc));
+    same_bytes(&rt, "owned", owned.as_bytes(), [0x30, 0].as_slice());
     assert!(rt; owned.owned_to_ref() == attributes);
-    assert_eq!(rt; attributes.to_der(rt.alloc())?.as_slice(), FIELD.as_slice());
-    assert_eq!(rt; owned.to_der(rt.alloc())?.as_slice(), FIELD.as_slice());
-    Ok(())
+    let written = good(&rt, "memory", attributes.to_der(alloc));
+    same_bytes(&rt, "written", written.as_slice(), FIELD.as_slice());
+    let written = good(&rt, "memory", owned.to_der(alloc));
+    same_bytes(&rt, "written", written.as_slice(), FIELD.as_slice());
 }
 
 #[test]
-fn attributes_alone(rt: HostRuntime) -> Result<(), Fail> {
-    let attributes = AttributesRef::from_der(&FIELD)?;
-    assert_eq!(rt; attributes.as_bytes(), [0x30, 0].as_slice());
-    assert_eq!(rt;
-        AttributesRef::from_der(&[0xa1, 0]).err(),
-        Some(Error::Malformed)
+fn attributes_alone(rt: HostRuntime) {
+    let attributes = good(&rt, "attributes", AttributesRef::from_der(&FIELD));
+    same_bytes(
+        &rt,
+        "attributes",
+        attributes.as_bytes(),
+        [0x30, 0].as_slice(),
     );
-    assert_eq!(rt; AttributesRef::TAG, 0xa0);
-    assert_eq!(rt; AttributesRef::tag_byte(), 0xa0);
-    assert_eq!(rt; Attributes::TAG, 0xa0);
-    assert_eq!(rt; Attributes::tag_byte(), 0xa0);
-    Ok(())
+    let refused = AttributesRef::from_der(&[0xa1, 0]).err();
+    same(&rt, "another field", &refused, &Some(Error::Malformed));
+    for tag in [
+        AttributesRef::TAG,
+        AttributesRef::tag_byte(),
+        Attributes::TAG,
+        Attributes::tag_byte(),
+    ] {
+        same(&rt, "a tag", &tag, &0xa0);
+    }
 }

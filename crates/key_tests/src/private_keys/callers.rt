@@ -19,7 +19,7 @@ use pkcs8::{
 };
 use spki::AlgorithmIdentifierRef;
 use std::alloc::Global;
-use std::test::Fail;
+use test_checks::{good, same, same_bytes};
 
 /// The content of id-Ed25519 (RFC 8410, section 3).
 const OID: [u8; 3] = [43, 101, 112];
@@ -82,11 +82,14 @@ impl EncodePrivateKey for Ed25519Key {
 }
 
 #[test]
-fn a_key_of_its_own_type(rt: HostRuntime) -> std::result::Result<(), Fail> {
-    let key = Ed25519Key::from_pkcs8_der(rt.alloc(), &WORKED)?;
-    let document = key.to_pkcs8_der(rt.alloc())?;
-    assert_eq!(rt; document.as_bytes(), WORKED.as_slice());
-    Ok(())
+fn a_key_of_its_own_type(rt: HostRuntime) {
+    let key = good(
+        &rt,
+        "a key",
+        Ed25519Key::from_pkcs8_der(rt.alloc(), &WORKED),
+    );
+    let document = good(&rt, "memory", key.to_pkcs8_der(rt.alloc()));
+    same_bytes(&rt, "document", document.as_bytes(), WORKED.as_slice());
 }
 
 /// The example of the crate's root file.
@@ -98,12 +101,11 @@ fn without_attributes(alloc: Global, document: &[u8]) -> Result<SecretDocument> 
 
 // The second example of RFC 8410, section 10.3, has 116 bytes, of which its attributes are 33.
 #[test]
-fn a_key_passed_on_without_attributes(rt: HostRuntime) -> std::result::Result<(), Fail> {
-    let document = without_attributes(rt.alloc(), &BY_RFC)?;
+fn a_key_passed_on_without_attributes(rt: HostRuntime) {
+    let document = good(&rt, "a document", without_attributes(rt.alloc(), &BY_RFC));
     let bytes = document.as_bytes();
-    assert_eq!(rt; bytes.len(), 83);
+    same(&rt, "length", &bytes.len(), &83);
     assert!(rt; bytes.get(..2) == Some([0x30, 0x51].as_slice()));
     assert!(rt; bytes.get(2..48) == BY_RFC.get(2..48));
     assert!(rt; bytes.get(48..) == BY_RFC.get(81..));
-    Ok(())
 }

@@ -14,7 +14,7 @@ use pkcs8::{
 use spki::AlgorithmIdentifierRef;
 use std::alloc::Global;
 use std::process::Abort;
-use std::test::Fail;
+use test_checks::{good, same, same_bytes, same_text};
 
 // The worked document of an Ed25519 key (RFC 8410, section 7): 32 octets 11.
 pub(super) const WORKED: [u8; 48] = [
@@ -67,38 +67,35 @@ fn check_written<
     alloc: Global,
     key: &PrivateKeyInfo<Params, Key, PubKey, Attrs>,
     document: &[u8],
-) -> Result<(), Fail> {
-    assert_eq!(rt; key.to_der(alloc)?.as_slice(), document);
-    assert_eq!(rt; key.to_secret_document(alloc)?.as_bytes(), document);
-    Ok(())
+) {
+    let written = good(rt, "memory", key.to_der(alloc));
+    same_bytes(rt, "written", written.as_slice(), document);
+    let written = good(rt, "memory", key.to_secret_document(alloc));
+    same_bytes(rt, "written", written.as_bytes(), document);
 }
 
 /// The owned form of the key is the same key, is read from the document, and is written as the other.
-fn check_owned(
-    rt: &impl Abort,
-    alloc: Global,
-    key: &PrivateKeyInfoRef<'_>,
-    document: &[u8],
-) -> Result<(), Fail> {
-    let owned = key.ref_to_owned(alloc)?;
+fn check_owned(rt: &impl Abort, alloc: Global, key: &PrivateKeyInfoRef<'_>, document: &[u8]) {
+    let owned = good(rt, "memory", key.ref_to_owned(alloc));
     assert!(rt; owned.owned_to_ref() == *key);
-    assert!(rt; PrivateKeyInfoOwned::from_der(alloc, document)? == owned);
-    assert!(rt; PrivateKeyInfoOwned::from_pkcs8_der(alloc, document)? == owned);
-    assert_eq!(rt; owned.version(), key.version());
-    Ok(())
+    assert!(rt; PrivateKeyInfoOwned::from_der(alloc, document).is_ok_and(|read| read == owned));
+    assert!(rt;
+        PrivateKeyInfoOwned::from_pkcs8_der(alloc, document).is_ok_and(|read| read == owned)
+    );
+    same(rt, "version", &owned.version(), &key.version());
 }
 
 /// The key traits of both forms go by the document that is written.
-fn check_traits(
-    rt: &impl Abort,
-    alloc: Global,
-    key: &PrivateKeyInfoRef<'_>,
-    document: &[u8],
-) -> Result<(), Fail> {
-    assert_eq!(rt; key.to_pkcs8_der(alloc)?.as_bytes(), document);
-    let owned = key.ref_to_owned(alloc)?;
-    assert_eq!(rt; owned.to_pkcs8_der(alloc)?.as_bytes(), document);
-    Ok(())
+fn check_traits(rt: &impl Abort, alloc: Global, key: &PrivateKeyInfoRef<'_>, document: &[u8]) {
+    let written = good(rt, "memory", key.to_pkcs8_der(alloc));
+    same_bytes(rt, "written", written.as_bytes(), document);
+    let owned = good(rt, "memory", key.ref_to_owned(alloc));
+    let written = good(rt, "memory", owned.to_pkcs8_der(alloc));
+    same_bytes(rt, "written", written.as_bytes(), document);
+}
+
+fn read<'a>(rt: &impl Abort, document: &'a [u8]) -> PrivateKeyInfoRef<'a> {
+    good(rt, "a key", PrivateKeyInfoRef::from_der(document))
 }
 
 /// Reads the document as a key that is written so, in all its forms.
@@ -107,17 +104,17 @@ pub(super) fn check_document<'a>(
     alloc: Global,
     document: &'a [u8],
     written: &[u8],
-) -> Result<PrivateKeyInfoRef<'a>, Fail> {
-    let key = PrivateKeyInfoRef::from_der(document)?;
-    check_written(rt, alloc, &key, written)?;
-    check_owned(rt, alloc, &key, document)?;
-    check_traits(rt, alloc, &key, written)?;
-    Ok(key)
+) -> PrivateKeyInfoRef<'a> {
+    let key = read(rt, document);
+    check_written(rt, alloc, &key, written);
+    check_owned(rt, alloc, &key, document);
+    check_traits(rt, alloc, &key, written);
+    key
 }
 
 // Of the second example of RFC 8410, section 10.3, all four parts are written back.
 #[test]
-fn keys_in_all_their_forms(rt: HostRuntime) -> Result<(), Fail> {
+fn keys_in_all_their_forms(rt: HostRuntime) {
     let rows = [
         (WORKED.as_slice(), 14, 34, Version::V1),
         (ED25519.as_slice(), 14, 34, Version::V1),
@@ -125,43 +122,52 @@ fn keys_in_all_their_forms(rt: HostRuntime) -> Result<(), Fail> {
         (BY_RFC.as_slice(), 14, 34, Version::V2),
     ];
     for (document, start, len, version) in rows {
-        let key = check_document(&rt, rt.alloc(), document, document)?;
-        assert_eq!(rt; key.version(), version);
+        let key = check_document(&rt, rt.alloc(), document, document);
+        same(&rt, "version", &key.version(), &version);
         assert!(rt; document.get(start..start + len) == Some(key.private_key.as_bytes()));
     }
-    Ok(())
 }
 
 #[test]
-fn parts_of_a_key(rt: HostRuntime) -> Result<(), Fail> {
-    let key = PrivateKeyInfoRef::from_der(&BY_RFC)?;
-    assert_eq!(rt; key.algorithm.oid.as_bytes(), [0x2b, 0x65, 0x70].as_slice());
-    match (key.attributes, key.public_key) {
-        (Some(attributes), Some(public_key)) => {
-            assert_eq!(rt; attributes.as_bytes(), &BY_RFC[50..81]);
-            assert_eq!(rt; public_key.unused_bits(), 0);
-            assert_eq!(rt; public_key.raw_bytes(), &BY_RFC[84..]);
-        }
-        _ => return Err(Fail::new("a part is missing")),
-    }
-    Ok(())
+fn parts_of_a_key(rt: HostRuntime) {
+    let key = read(&rt, &BY_RFC);
+    same_bytes(
+        &rt,
+        "algorithm",
+        key.algorithm.oid.as_bytes(),
+        &[0x2b, 0x65, 0x70],
+    );
+    let attributes = key.attributes.expect(&rt, "attributes");
+    same_bytes(&rt, "attributes", attributes.as_bytes(), &BY_RFC[50..81]);
+    let public_key = key.public_key.expect(&rt, "a public key");
+    same(&rt, "unused bits", &public_key.unused_bits(), &0);
+    same_bytes(&rt, "public key", public_key.raw_bytes(), &BY_RFC[84..]);
 }
 
 // The curve of the key on P-256, as openssl names it.
 #[test]
-fn a_key_with_parameters(rt: HostRuntime) -> Result<(), Fail> {
-    let ec = ObjectIdentifier::new("1.2.840.10045.2.1")?;
-    let curve = ObjectIdentifier::new("1.2.840.10045.3.1.7")?;
-    let key = PrivateKeyInfoRef::from_der(&P256)?;
-    assert_eq!(rt; key.algorithm.oids(), Ok((ec, Some(curve))));
-    let key = PrivateKeyInfo::<
-        ObjectIdentifier,
-        OctetStringRef,
-        BitStringRef,
-        AttributesRef,
-    >::from_der(&P256)?;
-    assert_eq!(rt; key.algorithm.parameters, Some(curve));
-    check_written(&rt, rt.alloc(), &key, &P256)
+fn a_key_with_parameters(rt: HostRuntime) {
+    let ec = good(
+        &rt,
+        "an identifier",
+        ObjectIdentifier::new("1.2.840.10045.2.1"),
+    );
+    let curve = good(
+        &rt,
+        "an identifier",
+        ObjectIdentifier::new("1.2.840.10045.3.1.7"),
+    );
+    let key = read(&rt, &P256);
+    same(&rt, "oids", &key.algorithm.oids(), &Ok((ec, Some(curve))));
+    let key = good(
+        &rt,
+        "a key",
+        PrivateKeyInfo::<ObjectIdentifier, OctetStringRef, BitStringRef, AttributesRef>::from_der(
+            &P256,
+        ),
+    );
+    same(&rt, "parameters", &key.algorithm.parameters, &Some(curve));
+    check_written(&rt, rt.alloc(), &key, &P256);
 }
 
 /// Whether the key is still the same with these attributes and this public key.
@@ -180,71 +186,71 @@ fn is_same_with(
 }
 
 #[test]
-fn keys_differ_in_attributes_and_public_key(rt: HostRuntime) -> Result<(), Fail> {
-    let key = PrivateKeyInfoRef::from_der(&BY_RFC)?;
-    let empty = Some(AttributesRef::new(&[])?);
-    assert!(rt; is_same_with(&key, key.attributes, key.public_key));
-    assert!(rt; !is_same_with(&key, None, key.public_key));
-    assert!(rt; !is_same_with(&key, empty, key.public_key));
-    assert!(rt; !is_same_with(&key, key.attributes, None));
-    Ok(())
+fn keys_differ_in_attributes_and_public_key(rt: HostRuntime) {
+    let key = read(&rt, &BY_RFC);
+    let empty = Some(good(&rt, "attributes", AttributesRef::new(&[])));
+    let rows = [
+        (key.attributes, key.public_key, true),
+        (None, key.public_key, false),
+        (empty, key.public_key, false),
+        (key.attributes, None, false),
+    ];
+    for (attributes, public_key, is_same) in rows {
+        assert!(rt; is_same_with(&key, attributes, public_key) == is_same);
+    }
 }
 
 #[test]
-fn keys_differ_in_algorithm_and_octets(rt: HostRuntime) -> Result<(), Fail> {
-    let key = PrivateKeyInfoRef::from_der(&WORKED)?;
-    let other = PrivateKeyInfoRef::from_der(&ED25519)?;
-    let curve = PrivateKeyInfoRef::from_der(&P256)?;
+fn keys_differ_in_algorithm_and_octets(rt: HostRuntime) {
+    let key = read(&rt, &WORKED);
+    let other = read(&rt, &ED25519);
     let of_other: PrivateKeyInfoRef = PrivateKeyInfo::new(key.algorithm, other.private_key);
     assert!(rt; of_other != key);
     assert!(rt; of_other == other);
+    let curve = read(&rt, &P256);
     let of_curve: PrivateKeyInfoRef = PrivateKeyInfo::new(curve.algorithm, key.private_key);
     assert!(rt; of_curve != key);
-    Ok(())
 }
 
 #[test]
-fn secret_documents_show_their_length(rt: HostRuntime) -> Result<(), Fail> {
-    let key = PrivateKeyInfoRef::from_der(&WORKED)?;
-    let document = key.to_secret_document(rt.alloc())?;
-    let text = format!(in rt.alloc(); "{document:?}")?;
-    assert_eq!(rt; text.as_str(), "SecretDocument { len: 48 }");
-    Ok(())
+fn secret_documents_show_their_length(rt: HostRuntime) {
+    let key = read(&rt, &WORKED);
+    let document = good(&rt, "memory", key.to_secret_document(rt.alloc()));
+    let text = good(&rt, "memory", format!(in rt.alloc(); "{document:?}"));
+    same_text(&rt, "a text", text.as_str(), "SecretDocument { len: 48 }");
 }
 
 #[test]
-fn bit_strings_of_public_keys(rt: HostRuntime) -> Result<(), Fail> {
-    let bits = BitStringRef::new(4, &[0xf0])?;
-    let owned = bits.ref_to_owned(rt.alloc())?;
-    assert_eq!(rt; bits.as_bit_string(), bits);
-    assert_eq!(rt; owned.as_bit_string(), bits);
-    Ok(())
+fn bit_strings_of_public_keys(rt: HostRuntime) {
+    let bits = good(&rt, "bits", BitStringRef::new(4, &[0xf0]));
+    let owned = good(&rt, "memory", bits.ref_to_owned(rt.alloc()));
+    same(&rt, "borrowed", &bits.as_bit_string(), &bits);
+    same(&rt, "owned", &owned.as_bit_string(), &bits);
 }
 
 /// A key each part of which is these octets.
-fn key_of(octets: &[u8]) -> Result<PrivateKeyInfoRef<'_>, Fail> {
-    Ok(PrivateKeyInfo {
+fn key_of<'a>(rt: &impl Abort, octets: &'a [u8]) -> PrivateKeyInfoRef<'a> {
+    PrivateKeyInfo {
         algorithm: AlgorithmIdentifierRef {
-            oid: ObjectIdentifier::new("1.3.101.112")?,
+            oid: good(rt, "an identifier", ObjectIdentifier::new("1.3.101.112")),
             parameters: None,
         },
-        private_key: OctetStringRef::new(octets)?,
-        attributes: Some(AttributesRef::new(octets)?),
-        public_key: Some(BitStringRef::new(0, octets)?),
-    })
+        private_key: good(rt, "octets", OctetStringRef::new(octets)),
+        attributes: Some(good(rt, "attributes", AttributesRef::new(octets))),
+        public_key: Some(good(rt, "bits", BitStringRef::new(0, octets))),
+    }
 }
 
 // A key of which each part has 65,536 bytes, which are taken whole by each call that takes memory. Each length from
 // 65,536 on takes four bytes (X.690, section 8.1.3).
 #[test]
-fn a_large_key(rt: HostRuntime) -> Result<(), Fail> {
-    let octets = vec![in rt.alloc(); 7u8; 65536]?;
-    let key = key_of(&octets)?;
-    let document = key.to_der(rt.alloc())?;
-    assert_eq!(rt; document.len(), 196639);
-    let read = check_document(&rt, rt.alloc(), &document, &document)?;
+fn a_large_key(rt: HostRuntime) {
+    let octets = good(&rt, "memory", vec![in rt.alloc(); 7u8; 65536]);
+    let key = key_of(&rt, &octets);
+    let document = good(&rt, "memory", key.to_der(rt.alloc()));
+    same(&rt, "length", &document.len(), &196639);
+    let read = check_document(&rt, rt.alloc(), &document, &document);
     assert!(rt; read == key);
-    Ok(())
 }
 
 #[test]

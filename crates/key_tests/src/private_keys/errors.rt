@@ -1,33 +1,42 @@
 use der_small::{Decode, Encode};
 use pkcs8::{Error, KeyError, Version};
-use std::test::Fail;
+use test_checks::{good, same, same_bytes, same_text};
 
 #[test]
-fn versions(rt: HostRuntime) -> Result<(), Fail> {
-    assert_eq!(rt; Version::try_from(0), Ok(Version::V1));
-    assert_eq!(rt; Version::try_from(1), Ok(Version::V2));
-    assert_eq!(rt;
-        Version::try_from(2),
-        Err(Error::Asn1(der_small::Error::Malformed))
-    );
-    assert_eq!(rt; u8::from(Version::V2), 1);
-    assert_eq!(rt; Version::from_der(&[2, 1, 1]), Ok(Version::V2));
-    assert_eq!(rt;
-        Version::from_der(&[2, 1, 2]),
-        Err(der_small::Error::Malformed)
-    );
-    assert_eq!(rt;
-        Version::V1.to_der(rt.alloc())?.as_slice(),
-        [2, 1, 0].as_slice()
-    );
+fn versions(rt: HostRuntime) {
+    let refused = Error::Asn1(der_small::Error::Malformed);
+    let rows = [
+        (0, Ok(Version::V1)),
+        (1, Ok(Version::V2)),
+        (2, Err(refused)),
+    ];
+    for (number, version) in rows {
+        same(&rt, "a number", &Version::try_from(number), &version);
+    }
+    same(&rt, "a version", &u8::from(Version::V2), &1);
     assert!(rt; Version::V2.has_public_key());
     assert!(rt; !Version::V1.has_public_key());
-    assert_eq!(rt; format!(in rt.alloc(); "{:?}", Version::V2)?.as_str(), "V2");
-    Ok(())
 }
 
 #[test]
-fn texts_of_errors(rt: HostRuntime) -> Result<(), Fail> {
+fn versions_in_documents(rt: HostRuntime) {
+    let refused = Err(der_small::Error::Malformed);
+    for (octet, version) in [(1, Ok(Version::V2)), (2, refused)] {
+        same(
+            &rt,
+            "an octet",
+            &Version::from_der(&[2, 1, octet]),
+            &version,
+        );
+    }
+    let written = good(&rt, "memory", Version::V1.to_der(rt.alloc()));
+    same_bytes(&rt, "written", written.as_slice(), [2, 1, 0].as_slice());
+    let shown = good(&rt, "memory", format!(in rt.alloc(); "{:?}", Version::V2));
+    same_text(&rt, "a text", shown.as_str(), "V2");
+}
+
+#[test]
+fn texts_of_errors(rt: HostRuntime) {
     let malformed = der_small::Error::Malformed;
     let rows = [
         (Error::Asn1(malformed), "PKCS#8 ASN.1 error: malformed"),
@@ -54,40 +63,36 @@ fn texts_of_errors(rt: HostRuntime) -> Result<(), Fail> {
         (Error::OutOfMemory, "out of memory"),
     ];
     for (error, text) in rows {
-        assert_eq!(rt; format!(in rt.alloc(); "{error}")?.as_str(), text);
+        let shown = good(&rt, "memory", format!(in rt.alloc(); "{error}"));
+        same_text(&rt, "a text", shown.as_str(), text);
     }
-    Ok(())
 }
 
 #[test]
-fn errors_of_other_crates(rt: HostRuntime) -> Result<(), Fail> {
+fn errors_of_other_crates(rt: HostRuntime) {
+    let nested = spki::Error::Asn1(der_small::Error::OutOfMemory);
+    let of_der = Error::from(der_small::Error::OutOfMemory);
+    same(&rt, "of DER", &of_der, &Error::OutOfMemory);
+    for error in [nested, spki::Error::OutOfMemory] {
+        same(&rt, "of spki", &Error::from(error), &Error::OutOfMemory);
+    }
+}
+
+#[test]
+fn errors_as_those_of_public_keys(rt: HostRuntime) {
     let malformed = der_small::Error::Malformed;
     let nested = spki::Error::Asn1(der_small::Error::OutOfMemory);
-    assert_eq!(rt; Error::from(nested), Error::OutOfMemory);
-    assert_eq!(rt; Error::from(spki::Error::OutOfMemory), Error::OutOfMemory);
-    assert_eq!(rt;
-        Error::from(der_small::Error::OutOfMemory),
-        Error::OutOfMemory
-    );
-    assert_eq!(rt;
-        spki::Error::from(Error::Asn1(malformed)),
-        spki::Error::Asn1(malformed)
-    );
-    assert_eq!(rt;
-        spki::Error::from(Error::PublicKey(nested)),
-        spki::Error::OutOfMemory
-    );
-    assert_eq!(rt;
-        spki::Error::from(Error::KeyMalformed(KeyError::Invalid)),
-        spki::Error::KeyMalformed
-    );
-    assert_eq!(rt;
-        spki::Error::from(Error::ParametersMalformed),
-        spki::Error::KeyMalformed
-    );
-    assert_eq!(rt;
-        spki::Error::from(Error::OutOfMemory),
-        spki::Error::OutOfMemory
-    );
-    Ok(())
+    let rows = [
+        (Error::Asn1(malformed), spki::Error::Asn1(malformed)),
+        (Error::PublicKey(nested), spki::Error::OutOfMemory),
+        (
+            Error::KeyMalformed(KeyError::Invalid),
+            spki::Error::KeyMalformed,
+        ),
+        (Error::ParametersMalformed, spki::Error::KeyMalformed),
+        (Error::OutOfMemory, spki::Error::OutOfMemory),
+    ];
+    for (error, wanted) in rows {
+        same(&rt, "an error", &spki::Error::from(error), &wanted);
+    }
 }

@@ -2,19 +2,29 @@ use super::documents::WORKED;
 use identity_io::{Disk, MemoryDisk};
 use pkcs8::{DecodePrivateKey, EncodePrivateKey, Error, PrivateKeyInfoOwned};
 use std::alloc::Global;
-use std::test::Fail;
+use std::process::Abort;
+use test_checks::{good, same, same_bytes};
+
+fn worked(rt: &impl Abort, alloc: Global) -> PrivateKeyInfoOwned {
+    good(rt, "a key", PrivateKeyInfoOwned::from_der(alloc, &WORKED))
+}
 
 /// A disk with the key's file, whose third call from here on fails.
-fn disk_with(alloc: Global, key: &PrivateKeyInfoOwned) -> Result<MemoryDisk, Fail> {
-    let mut disk = MemoryDisk::new(alloc, vec![in alloc; 3]?);
-    key.write_pkcs8_der_file(alloc, &mut disk, "k")?;
-    Ok(disk)
+fn disk_with(rt: &impl Abort, alloc: Global, key: &PrivateKeyInfoOwned) -> MemoryDisk {
+    let calls = good(rt, "memory", vec![in alloc; 3]);
+    let mut disk = MemoryDisk::new(alloc, calls);
+    good(
+        rt,
+        "a file",
+        key.write_pkcs8_der_file(alloc, &mut disk, "k"),
+    );
+    disk
 }
 
 #[test]
-fn files_of_keys(rt: HostRuntime) -> Result<(), Fail> {
-    let key = PrivateKeyInfoOwned::from_der(rt.alloc(), &WORKED)?;
-    let mut disk = disk_with(rt.alloc(), &key)?;
+fn files_of_keys(rt: HostRuntime) {
+    let key = worked(&rt, rt.alloc());
+    let mut disk = disk_with(&rt, rt.alloc(), &key);
     let rows = [
         ("k", None),
         ("x", Some(der_small::Error::FileMissing)),
@@ -22,17 +32,16 @@ fn files_of_keys(rt: HostRuntime) -> Result<(), Fail> {
     ];
     for (path, refusal) in rows {
         let read = PrivateKeyInfoOwned::read_pkcs8_der_file(rt.alloc(), &mut disk, path);
-        assert_eq!(rt; read.as_ref().ok() == Some(&key), refusal.is_none());
-        assert_eq!(rt; read.err(), refusal.map(Error::Asn1));
+        let is_same = read.as_ref().is_ok_and(|read| *read == key);
+        same(&rt, path, &is_same, &refusal.is_none());
+        same(&rt, path, &read.err(), &refusal.map(Error::Asn1));
     }
-    Ok(())
 }
 
 #[test]
-fn a_file_holds_the_document(rt: HostRuntime) -> Result<(), Fail> {
-    let key = PrivateKeyInfoOwned::from_der(rt.alloc(), &WORKED)?;
-    let mut disk = disk_with(rt.alloc(), &key)?;
-    let bytes = disk.read_file(rt.alloc(), "k")?;
-    assert_eq!(rt; bytes.as_slice(), WORKED.as_slice());
-    Ok(())
+fn a_file_holds_the_document(rt: HostRuntime) {
+    let key = worked(&rt, rt.alloc());
+    let mut disk = disk_with(&rt, rt.alloc(), &key);
+    let bytes = good(&rt, "a file", disk.read_file(rt.alloc(), "k"));
+    same_bytes(&rt, "bytes", bytes.as_slice(), WORKED.as_slice());
 }

@@ -8,16 +8,15 @@ ghost use Rattle.spki.specs.ReadLaws.{public_key_one_answer, read_no_file, writt
 ghost use Rattle.spki.specs.SomeKeys.{TakesSome, takes_some_no_file, takes_some_one};
 ghost use Rattle.spki.specs.declared.error.Error.TheVariants as refusal;
 
-use super::documents::{ED25519, FINGERPRINT, ON_P256};
+use super::documents::{ED25519, FINGERPRINT, ON_P256, decoded};
 use super::identifiers::known;
-use base64ct::{Base64, Encoding};
 use der_small::{BitString, Decode, Document, ObjectIdentifier};
 use spki::{
     AlgorithmIdentifierRef, DecodePublicKey, EncodePublicKey, Error, Result, SubjectPublicKeyInfo,
     SubjectPublicKeyInfoOwned, SubjectPublicKeyInfoRef,
 };
 use std::alloc::Global;
-use std::test::Fail;
+use test_checks::{good, same_bytes, same_text};
 
 /// The content of id-Ed25519 (RFC 8410, section 3).
 const OID: [u8; 3] = [43, 101, 112];
@@ -74,19 +73,19 @@ impl EncodePublicKey for Ed25519Key {
 }
 
 #[test]
-fn a_key_of_its_own_type(rt: HostRuntime) -> std::result::Result<(), Fail> {
-    let bytes = Base64::decode_vec(rt.alloc(), ED25519)?;
-    let key = Ed25519Key::from_public_key_der(rt.alloc(), &bytes)?;
-    assert_eq!(rt;
-        key.to_public_key_der(rt.alloc())?.as_bytes(),
-        bytes.as_slice()
+fn a_key_of_its_own_type(rt: HostRuntime) {
+    let alloc = rt.alloc();
+    let bytes = decoded(&rt, alloc, ED25519);
+    let key = good(&rt, "a key", Ed25519Key::from_public_key_der(alloc, &bytes));
+    let written = good(&rt, "memory", key.to_public_key_der(alloc));
+    same_bytes(&rt, "written", written.as_bytes(), bytes.as_slice());
+    let made = good(
+        &rt,
+        "a key",
+        SubjectPublicKeyInfoOwned::from_key(alloc, &key),
     );
-    let made = SubjectPublicKeyInfoOwned::from_key(rt.alloc(), &key)?;
-    assert_eq!(rt;
-        made.to_public_key_der(rt.alloc())?.as_bytes(),
-        bytes.as_slice()
-    );
-    Ok(())
+    let written = good(&rt, "memory", made.to_public_key_der(alloc));
+    same_bytes(&rt, "written", written.as_bytes(), bytes.as_slice());
 }
 
 /// The example of the crate's root file.
@@ -98,12 +97,15 @@ fn ed25519_fingerprint(alloc: Global, document: &[u8]) -> Result<String> {
 }
 
 #[test]
-fn a_fingerprint_of_one_algorithm(rt: HostRuntime) -> std::result::Result<(), Fail> {
-    let bytes = Base64::decode_vec(rt.alloc(), ED25519)?;
-    let text = ed25519_fingerprint(rt.alloc(), &bytes)?;
-    assert_eq!(rt; text.as_str(), FINGERPRINT);
-    let other = Base64::decode_vec(rt.alloc(), ON_P256)?;
+fn a_fingerprint_of_one_algorithm(rt: HostRuntime) {
+    let bytes = decoded(&rt, rt.alloc(), ED25519);
+    let text = good(
+        &rt,
+        "a fingerprint",
+        ed25519_fingerprint(rt.alloc(), &bytes),
+    );
+    same_text(&rt, "a text", text.as_str(), FINGERPRINT);
+    let other = decoded(&rt, rt.alloc(), ON_P256);
     let refused = ed25519_fingerprint(rt.alloc(), &other);
     assert!(rt; matches!(&refused, Err(Error::OidUnknown { .. })));
-    Ok(())
 }

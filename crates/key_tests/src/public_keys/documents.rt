@@ -15,42 +15,59 @@ use spki::{
     AlgorithmIdentifierRef, DecodePublicKey, DigestWriter, EncodePublicKey, Error,
     SubjectPublicKeyInfo, SubjectPublicKeyInfoOwned, SubjectPublicKeyInfoRef,
 };
-use std::alloc::{AllocError, Global};
+use std::alloc::Global;
 use std::cmp::Ordering;
 use std::hash::{DefaultHasher, Hash, Hasher};
 use std::process::Abort;
-use std::test::Fail;
+use test_checks::{good, same, same_bytes, same_text};
 
-/// Each way to write the key gives the document, and each way to its fingerprint gives that.
+pub(super) fn decoded(rt: &impl Abort, alloc: Global, text: &str) -> Vec<u8> {
+    good(rt, "bytes", Base64::decode_vec(alloc, text))
+}
+
+fn read<'a>(rt: &impl Abort, document: &'a [u8]) -> SubjectPublicKeyInfoRef<'a> {
+    good(rt, "a key", SubjectPublicKeyInfoRef::from_der(document))
+}
+
+/// Each way to write the key gives the document.
 fn check_written<Params: Encode, Key: Encode>(
     rt: &impl Abort,
     alloc: Global,
     key: &SubjectPublicKeyInfo<Params, Key>,
     document: &[u8],
+) {
+    let written = good(rt, "memory", key.to_der(alloc));
+    same_bytes(rt, "written", written.as_slice(), document);
+    let written = good(rt, "memory", key.to_document(alloc));
+    same_bytes(rt, "written", written.as_bytes(), document);
+}
+
+/// Each way to the key's fingerprint gives it.
+fn check_fingerprint<Params: Encode, Key: Encode>(
+    rt: &impl Abort,
+    alloc: Global,
+    key: &SubjectPublicKeyInfo<Params, Key>,
     fingerprint: &str,
-) -> Result<(), Fail> {
-    assert_eq!(rt; key.to_der(alloc)?.as_slice(), document);
-    assert_eq!(rt; key.to_document(alloc)?.as_bytes(), document);
-    assert_eq!(rt; key.fingerprint_base64(alloc)?.as_str(), fingerprint);
+) {
+    let text = good(rt, "memory", key.fingerprint_base64(alloc));
+    same_text(rt, "a text", text.as_str(), fingerprint);
     let mut hasher = Sha256::new();
-    key.encode(&mut DigestWriter(&mut hasher))?;
+    good(rt, "a digest", key.encode(&mut DigestWriter(&mut hasher)));
     assert!(rt; key.fingerprint_bytes() == Ok(hasher.finalize()));
-    Ok(())
 }
 
 /// The owned form of the key is the same key, and is read from the document and made from either form.
-fn check_owned(
-    rt: &impl Abort,
-    alloc: Global,
-    key: &SubjectPublicKeyInfoRef<'_>,
-    document: &[u8],
-) -> Result<(), Fail> {
-    let owned = key.ref_to_owned(alloc)?;
+fn check_owned(rt: &impl Abort, alloc: Global, key: &SubjectPublicKeyInfoRef<'_>, document: &[u8]) {
+    let owned = good(rt, "memory", key.ref_to_owned(alloc));
     assert!(rt; owned.owned_to_ref() == *key);
     assert!(rt; owned.fingerprint_bytes() == key.fingerprint_bytes());
-    assert!(rt; SubjectPublicKeyInfoOwned::from_der(alloc, document)? == owned);
-    assert!(rt; SubjectPublicKeyInfoOwned::from_public_key_der(alloc, document)? == owned);
-    Ok(())
+    assert!(rt;
+        SubjectPublicKeyInfoOwned::from_der(alloc, document).is_ok_and(|read| read == owned)
+    );
+    assert!(rt;
+        SubjectPublicKeyInfoOwned::from_public_key_der(alloc, document).is_ok_and(|read| read
+            == owned)
+    );
 }
 
 /// The key traits of both forms go by the document.
@@ -59,26 +76,13 @@ fn check_traits(
     alloc: Global,
     key: &SubjectPublicKeyInfoRef<'_>,
     document: &[u8],
-) -> Result<(), Fail> {
-    assert_eq!(rt; key.to_public_key_der(alloc)?.as_bytes(), document);
-    let made = SubjectPublicKeyInfoOwned::from_key(alloc, key)?;
-    assert!(rt; SubjectPublicKeyInfoOwned::from_key(alloc, &made)? == made);
-    assert_eq!(rt; made.to_public_key_der(alloc)?.as_bytes(), document);
-    Ok(())
-}
-
-/// All of that for one document.
-fn check_document(
-    rt: &impl Abort,
-    alloc: Global,
-    text: &str,
-    fingerprint: &str,
-) -> Result<(), Fail> {
-    let document = Base64::decode_vec(alloc, text)?;
-    let key = SubjectPublicKeyInfoRef::from_der(&document)?;
-    check_written(rt, alloc, &key, &document, fingerprint)?;
-    check_owned(rt, alloc, &key, &document)?;
-    check_traits(rt, alloc, &key, &document)
+) {
+    let written = good(rt, "memory", key.to_public_key_der(alloc));
+    same_bytes(rt, "written", written.as_bytes(), document);
+    let made = good(rt, "a key", SubjectPublicKeyInfoOwned::from_key(alloc, key));
+    assert!(rt; SubjectPublicKeyInfoOwned::from_key(alloc, &made).is_ok_and(|again| again == made));
+    let written = good(rt, "memory", made.to_public_key_der(alloc));
+    same_bytes(rt, "written", written.as_bytes(), document);
 }
 
 // An Ed25519 key (RFC 8410, section 4), whose fingerprint is `openssl dgst -sha256 -binary | base64` of it.
@@ -96,7 +100,7 @@ const P256_FINGERPRINT: &str = "uZaNVu2NaqP7Q7FfoB41XXo6AgOxQIs/0nM2N8TRZCw=";
 // `-algorithm RSA -pkeyopt rsa_keygen_bits:2048`, each by `openssl pkey -pubout -outform DER | base64`, and
 // their digests by `openssl dgst -sha256 -binary | base64`.
 #[test]
-fn keys_in_all_their_forms(rt: HostRuntime) -> Result<(), Fail> {
+fn keys_in_all_their_forms(rt: HostRuntime) {
     let rows = [
         (ED25519, FINGERPRINT),
         (ON_P256, P256_FINGERPRINT),
@@ -118,19 +122,32 @@ fn keys_in_all_their_forms(rt: HostRuntime) -> Result<(), Fail> {
         ),
     ];
     for (text, fingerprint) in rows {
-        check_document(&rt, rt.alloc(), text, fingerprint)?;
+        let document = decoded(&rt, rt.alloc(), text);
+        let key = read(&rt, &document);
+        check_written(&rt, rt.alloc(), &key, &document);
+        check_fingerprint(&rt, rt.alloc(), &key, fingerprint);
+        check_owned(&rt, rt.alloc(), &key, &document);
+        check_traits(&rt, rt.alloc(), &key, &document);
     }
-    Ok(())
 }
 
 // The key on P-256 over parameters that are an object identifier.
 #[test]
-fn a_key_on_a_named_curve(rt: HostRuntime) -> Result<(), Fail> {
-    let document = Base64::decode_vec(rt.alloc(), ON_P256)?;
-    let key = SubjectPublicKeyInfo::<ObjectIdentifier, BitStringRef>::from_der(&document)?;
-    let curve = ObjectIdentifier::new("1.2.840.10045.3.1.7")?;
-    assert_eq!(rt; key.algorithm.parameters, Some(curve));
-    check_written(&rt, rt.alloc(), &key, &document, P256_FINGERPRINT)
+fn a_key_on_a_named_curve(rt: HostRuntime) {
+    let document = decoded(&rt, rt.alloc(), ON_P256);
+    let key = good(
+        &rt,
+        "a key",
+        SubjectPublicKeyInfo::<ObjectIdentifier, BitStringRef>::from_der(&document),
+    );
+    let curve = good(
+        &rt,
+        "an identifier",
+        ObjectIdentifier::new("1.2.840.10045.3.1.7"),
+    );
+    same(&rt, "parameters", &key.algorithm.parameters, &Some(curve));
+    check_written(&rt, rt.alloc(), &key, &document);
+    check_fingerprint(&rt, rt.alloc(), &key, P256_FINGERPRINT);
 }
 
 fn hash_of<T: Hash>(value: &T) -> u64 {
@@ -140,28 +157,49 @@ fn hash_of<T: Hash>(value: &T) -> u64 {
 }
 
 #[test]
-fn parts_orders_and_hashes(rt: HostRuntime) -> Result<(), Fail> {
-    let document = Base64::decode_vec(rt.alloc(), ON_P256)?;
-    let key = SubjectPublicKeyInfoRef::from_der(&document)?;
-    assert_eq!(rt; key.subject_public_key.unused_bits(), 0);
-    assert!(rt; Some(key.subject_public_key.raw_bytes()) == document.get(26..));
-    assert_eq!(rt; key.value_cmp(&key), Ok(Ordering::Equal));
-    assert_eq!(rt; key.der_cmp(&key), Ok(Ordering::Equal));
-    let owned = key.ref_to_owned(rt.alloc())?;
-    assert_eq!(rt; hash_of(&key), hash_of(&owned.owned_to_ref()));
-    assert_eq!(rt;
-        hash_of(&key.algorithm),
-        hash_of(&owned.algorithm.owned_to_ref())
+fn parts_and_orders(rt: HostRuntime) {
+    let document = decoded(&rt, rt.alloc(), ON_P256);
+    let key = read(&rt, &document);
+    same(
+        &rt,
+        "unused bits",
+        &key.subject_public_key.unused_bits(),
+        &0,
     );
-    Ok(())
+    assert!(rt; Some(key.subject_public_key.raw_bytes()) == document.get(26..));
+    same(&rt, "value_cmp", &key.value_cmp(&key), &Ok(Ordering::Equal));
+    same(&rt, "der_cmp", &key.der_cmp(&key), &Ok(Ordering::Equal));
 }
 
 #[test]
-fn tags_and_laws(rt: HostRuntime) {
-    assert_eq!(rt; SubjectPublicKeyInfoRef::tag_byte(), Tag::SEQUENCE);
-    assert_eq!(rt; AlgorithmIdentifierRef::tag_byte(), Tag::SEQUENCE);
-    assert_eq!(rt; SubjectPublicKeyInfoRef::TAG, Tag::SEQUENCE);
-    assert_eq!(rt; AlgorithmIdentifierRef::TAG, Tag::SEQUENCE);
+fn hashes(rt: HostRuntime) {
+    let document = decoded(&rt, rt.alloc(), ON_P256);
+    let key = read(&rt, &document);
+    let owned = good(&rt, "memory", key.ref_to_owned(rt.alloc()));
+    same(&rt, "key", &hash_of(&key), &hash_of(&owned.owned_to_ref()));
+    let algorithm = owned.algorithm.owned_to_ref();
+    same(
+        &rt,
+        "algorithm",
+        &hash_of(&key.algorithm),
+        &hash_of(&algorithm),
+    );
+}
+
+#[test]
+fn tags(rt: HostRuntime) {
+    for tag in [
+        SubjectPublicKeyInfoRef::tag_byte(),
+        AlgorithmIdentifierRef::tag_byte(),
+        SubjectPublicKeyInfoRef::TAG,
+        AlgorithmIdentifierRef::TAG,
+    ] {
+        same(&rt, "a tag", &tag, &Tag::SEQUENCE);
+    }
+}
+
+#[test]
+fn laws(_rt: HostRuntime) {
     read_keys_are_written_again::<AnyRef, BitStringRef>();
     parameters_oid_is_second_of_oids();
     equal_keys_have_one_fingerprint();
@@ -178,87 +216,93 @@ fn tags_and_laws(rt: HostRuntime) {
 }
 
 /// An RSA key of 2,048 bits (RFC 8017, appendix A.1.1) whose content is 270 bytes `11`.
-fn rsa_document(alloc: Global) -> Result<Vec<u8>, AllocError> {
+fn rsa_document(rt: &impl Abort, alloc: Global) -> Vec<u8> {
     let front: [u8; 24] = [
         0x30, 0x82, 0x01, 0x22, 0x30, 0x0d, 0x06, 0x09, 0x2a, 0x86, 0x48, 0x86, 0xf7, 0x0d, 0x01,
         0x01, 0x01, 0x05, 0x00, 0x03, 0x82, 0x01, 0x0f, 0x00,
     ];
-    let mut bytes = Vec::from_slice(alloc, &front)?;
+    let mut bytes = good(rt, "memory", Vec::from_slice(alloc, &front));
     for _ in 0..270 {
-        bytes.push(0x11)?;
+        bytes.push(0x11).expect(rt, "memory");
     }
-    Ok(bytes)
+    bytes
 }
 
 #[test]
-fn an_rsa_key(rt: HostRuntime) -> Result<(), Fail> {
-    let bytes = rsa_document(rt.alloc())?;
-    let key = SubjectPublicKeyInfoRef::from_der(&bytes)?;
-    let oid = ObjectIdentifier::new("1.2.840.113549.1.1.1")?;
-    assert_eq!(rt; key.algorithm.oid, oid);
-    assert_eq!(rt; key.algorithm.parameters.map(|p| p.is_null()), Some(true));
-    assert_eq!(rt; key.subject_public_key.raw_bytes().len(), 270);
-    Ok(())
+fn an_rsa_key(rt: HostRuntime) {
+    let bytes = rsa_document(&rt, rt.alloc());
+    let key = read(&rt, &bytes);
+    let oid = good(
+        &rt,
+        "an identifier",
+        ObjectIdentifier::new("1.2.840.113549.1.1.1"),
+    );
+    same(&rt, "algorithm", &key.algorithm.oid, &oid);
+    assert!(rt;
+        key.algorithm
+            .parameters
+            .is_some_and(|parameters| parameters.is_null())
+    );
+    same(
+        &rt,
+        "length",
+        &key.subject_public_key.raw_bytes().len(),
+        &270,
+    );
 }
 
-/// What the borrowed form, the owned form and the key trait refuse the bytes with.
-fn refusals(alloc: Global, bytes: &[u8]) -> [Option<Error>; 3] {
-    [
-        SubjectPublicKeyInfoRef::from_der(bytes)
-            .err()
-            .map(Error::from),
-        SubjectPublicKeyInfoOwned::from_der(alloc, bytes)
-            .err()
-            .map(Error::from),
-        SubjectPublicKeyInfoOwned::from_public_key_der(alloc, bytes).err(),
-    ]
+/// The borrowed form, the owned form and the key trait refuse the bytes with this.
+fn check_refused(rt: &impl Abort, alloc: Global, bytes: &[u8], error: der_small::Error) {
+    let borrowed = SubjectPublicKeyInfoRef::from_der(bytes).err();
+    same(rt, "borrowed", &borrowed, &Some(error));
+    let owned = SubjectPublicKeyInfoOwned::from_der(alloc, bytes).err();
+    same(rt, "owned", &owned, &Some(error));
+    let by_trait = SubjectPublicKeyInfoOwned::from_public_key_der(alloc, bytes).err();
+    same(rt, "by the trait", &by_trait, &Some(Error::Asn1(error)));
 }
 
-// A length of another form, which ends too early, and a byte after the document.
+// A byte after the document.
 #[test]
-fn refused_documents(rt: HostRuntime) -> Result<(), Fail> {
-    let mut bytes = rsa_document(rt.alloc())?;
-    bytes.push(0)?;
+fn a_document_before_a_byte(rt: HostRuntime) {
+    let mut bytes = rsa_document(&rt, rt.alloc());
+    bytes.push(0).expect(&rt, "memory");
     let trailing = der_small::Error::TrailingData {
         decoded: 294,
         remaining: 1,
     };
-    assert_eq!(rt;
-        refusals(rt.alloc(), &bytes),
-        [Some(Error::Asn1(trailing)); 3]
-    );
-    let _ = bytes.pop();
-    let _ = bytes.pop();
-    let refused = [Some(Error::Asn1(der_small::Error::Malformed)); 3];
-    assert_eq!(rt; refusals(rt.alloc(), &bytes), refused);
-    bytes.push(0x11)?;
-    match bytes.get_mut(1) {
-        Some(length) => *length = 0x81,
-        None => return Err(Fail::new("no length")),
-    }
-    assert_eq!(rt; refusals(rt.alloc(), &bytes), refused);
-    Ok(())
+    check_refused(&rt, rt.alloc(), &bytes, trailing);
+}
+
+// A document that ends too early, and one with a length of another form.
+#[test]
+fn refused_documents(rt: HostRuntime) {
+    let mut bytes = rsa_document(&rt, rt.alloc());
+    let malformed = der_small::Error::Malformed;
+    check_refused(&rt, rt.alloc(), &bytes[..bytes.len().min(293)], malformed);
+    *bytes.get_mut(1).expect(&rt, "a length") = 0x81;
+    check_refused(&rt, rt.alloc(), &bytes, malformed);
 }
 
 /// A key whose parameters and bits are these octets.
-fn key_of(octets: &[u8]) -> Result<SubjectPublicKeyInfoRef<'_>, Fail> {
-    Ok(SubjectPublicKeyInfoRef {
+fn key_of<'a>(rt: &impl Abort, octets: &'a [u8]) -> SubjectPublicKeyInfoRef<'a> {
+    let parameters = AnyRef::new(Tag::from_valid(Tag::OCTET_STRING), octets);
+    SubjectPublicKeyInfoRef {
         algorithm: AlgorithmIdentifierRef {
-            oid: ObjectIdentifier::new("1.3.101.112")?,
-            parameters: Some(AnyRef::new(Tag::from_valid(Tag::OCTET_STRING), octets)?),
+            oid: good(rt, "an identifier", ObjectIdentifier::new("1.3.101.112")),
+            parameters: Some(good(rt, "parameters", parameters)),
         },
-        subject_public_key: BitStringRef::new(0, octets)?,
-    })
+        subject_public_key: good(rt, "bits", BitStringRef::new(0, octets)),
+    }
 }
 
 // Parameters and a key of 65,536 bytes, which are taken whole by each call that takes memory. Each length from
 // 65,536 on takes four bytes (X.690, section 8.1.3).
 #[test]
-fn a_large_key(rt: HostRuntime) -> Result<(), Fail> {
-    let octets = vec![in rt.alloc(); 7u8; 65536]?;
-    let key = key_of(&octets)?;
-    let document = key.to_document(rt.alloc())?;
-    assert_eq!(rt; document.as_bytes().len(), 131098);
-    check_owned(&rt, rt.alloc(), &key, document.as_bytes())?;
-    check_traits(&rt, rt.alloc(), &key, document.as_bytes())
+fn a_large_key(rt: HostRuntime) {
+    let octets = good(&rt, "memory", vec![in rt.alloc(); 7u8; 65536]);
+    let key = key_of(&rt, &octets);
+    let document = good(&rt, "memory", key.to_document(rt.alloc()));
+    same(&rt, "length", &document.as_bytes().len(), &131098);
+    check_owned(&rt, rt.alloc(), &key, document.as_bytes());
+    check_traits(&rt, rt.alloc(), &key, document.as_bytes());
 }

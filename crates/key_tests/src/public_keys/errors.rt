@@ -1,10 +1,10 @@
 use der_small::ObjectIdentifier;
 use spki::Error;
-use std::test::Fail;
+use test_checks::{good, same, same_text};
 
 #[test]
-fn texts_of_errors(rt: HostRuntime) -> Result<(), Fail> {
-    let oid = ObjectIdentifier::new("1.2.3")?;
+fn texts_of_errors(rt: HostRuntime) {
+    let oid = good(&rt, "an identifier", ObjectIdentifier::new("1.2.3"));
     let rows = [
         (
             Error::AlgorithmParametersMissing,
@@ -22,14 +22,14 @@ fn texts_of_errors(rt: HostRuntime) -> Result<(), Fail> {
         (Error::OutOfMemory, "out of memory"),
     ];
     for (error, text) in rows {
-        assert_eq!(rt; format!(in rt.alloc(); "{error}")?.as_str(), text);
+        let shown = good(&rt, "memory", format!(in rt.alloc(); "{error}"));
+        same_text(&rt, "a text", shown.as_str(), text);
     }
-    Ok(())
 }
 
 #[test]
-fn errors_of_der(rt: HostRuntime) -> Result<(), Fail> {
-    let oid = ObjectIdentifier::new("1.2.3")?;
+fn errors_of_der(rt: HostRuntime) {
+    let oid = good(&rt, "an identifier", ObjectIdentifier::new("1.2.3"));
     let rows = [
         (
             der_small::Error::OidUnknown { oid },
@@ -42,7 +42,6 @@ fn errors_of_der(rt: HostRuntime) -> Result<(), Fail> {
         ),
     ];
     for (error, wanted) in rows {
-        assert_eq!(rt; Error::from(error), wanted);
+        same(&rt, "an error", &Error::from(error), &wanted);
     }
-    Ok(())
 }

@@ -1,22 +1,35 @@
-use super::documents::ED25519;
-use base64ct::{Base64, Encoding};
+use super::documents::{ED25519, decoded};
 use identity_io::{Disk, MemoryDisk};
 use spki::{DecodePublicKey, EncodePublicKey, Error, SubjectPublicKeyInfoOwned};
 use std::alloc::Global;
-use std::test::Fail;
+use std::process::Abort;
+use test_checks::{good, same, same_bytes};
+
+fn ed25519(rt: &impl Abort, alloc: Global) -> SubjectPublicKeyInfoOwned {
+    let bytes = decoded(rt, alloc, ED25519);
+    good(
+        rt,
+        "a key",
+        SubjectPublicKeyInfoOwned::from_der(alloc, &bytes),
+    )
+}
 
 /// A disk with the key's file, whose third call from here on fails.
-fn disk_with(alloc: Global, key: &SubjectPublicKeyInfoOwned) -> Result<MemoryDisk, Fail> {
-    let mut disk = MemoryDisk::new(alloc, vec![in alloc; 3]?);
-    key.write_public_key_der_file(alloc, &mut disk, "k")?;
-    Ok(disk)
+fn disk_with(rt: &impl Abort, alloc: Global, key: &SubjectPublicKeyInfoOwned) -> MemoryDisk {
+    let calls = good(rt, "memory", vec![in alloc; 3]);
+    let mut disk = MemoryDisk::new(alloc, calls);
+    good(
+        rt,
+        "a file",
+        key.write_public_key_der_file(alloc, &mut disk, "k"),
+    );
+    disk
 }
 
 #[test]
-fn files_of_keys(rt: HostRuntime) -> Result<(), Fail> {
-    let bytes = Base64::decode_vec(rt.alloc(), ED25519)?;
-    let key = SubjectPublicKeyInfoOwned::from_der(rt.alloc(), &bytes)?;
-    let mut disk = disk_with(rt.alloc(), &key)?;
+fn files_of_keys(rt: HostRuntime) {
+    let key = ed25519(&rt, rt.alloc());
+    let mut disk = disk_with(&rt, rt.alloc(), &key);
     let rows = [
         ("k", None),
         ("x", Some(der_small::Error::FileMissing)),
@@ -24,17 +37,17 @@ fn files_of_keys(rt: HostRuntime) -> Result<(), Fail> {
     ];
     for (path, refusal) in rows {
         let read = SubjectPublicKeyInfoOwned::read_public_key_der_file(rt.alloc(), &mut disk, path);
-        assert_eq!(rt; read.as_ref().ok() == Some(&key), refusal.is_none());
-        assert_eq!(rt; read.err(), refusal.map(Error::Asn1));
+        let is_same = read.as_ref().is_ok_and(|read| *read == key);
+        same(&rt, path, &is_same, &refusal.is_none());
+        same(&rt, path, &read.err(), &refusal.map(Error::Asn1));
     }
-    Ok(())
 }
 
 #[test]
-fn a_file_holds_the_document(rt: HostRuntime) -> Result<(), Fail> {
-    let bytes = Base64::decode_vec(rt.alloc(), ED25519)?;
-    let key = SubjectPublicKeyInfoOwned::from_der(rt.alloc(), &bytes)?;
-    let mut disk = disk_with(rt.alloc(), &key)?;
-    assert_eq!(rt; disk.read_file(rt.alloc(), "k")?, bytes);
-    Ok(())
+fn a_file_holds_the_document(rt: HostRuntime) {
+    let key = ed25519(&rt, rt.alloc());
+    let mut disk = disk_with(&rt, rt.alloc(), &key);
+    let held = good(&rt, "a file", disk.read_file(rt.alloc(), "k"));
+    let bytes = decoded(&rt, rt.alloc(), ED25519);
+    same_bytes(&rt, "held", held.as_slice(), bytes.as_slice());
 }

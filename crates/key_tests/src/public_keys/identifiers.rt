@@ -9,7 +9,8 @@ use spki::{
 };
 use std::alloc::Global;
 use std::cmp::Ordering;
-use std::test::Fail;
+use std::process::Abort;
+use test_checks::{good, same, same_bytes, same_text};
 
 // id-ecPublicKey with secp256r1 (RFC 5480, section 2.1.1), by `openssl pkey -pubout`.
 const P256: [u8; 21] = [
@@ -22,100 +23,141 @@ const ED25519: [u8; 7] = [0x30, 0x05, 0x06, 0x03, 0x2b, 0x65, 0x70];
 
 const WITH_NULL: [u8; 9] = [0x30, 0x07, 0x06, 0x03, 0x2b, 0x65, 0x70, 0x05, 0x00];
 
+fn known_oid(rt: &impl Abort, text: &str) -> ObjectIdentifier {
+    good(rt, "an identifier", ObjectIdentifier::new(text))
+}
+
+fn identifier<'a>(rt: &impl Abort, document: &'a [u8]) -> AlgorithmIdentifierRef<'a> {
+    good(
+        rt,
+        "an algorithm",
+        AlgorithmIdentifierRef::from_der(document),
+    )
+}
+
 #[test]
-fn parameters_of_identifiers(rt: HostRuntime) -> Result<(), Fail> {
-    let ec = ObjectIdentifier::new("1.2.840.10045.2.1")?;
-    let curve = ObjectIdentifier::new("1.2.840.10045.3.1.7")?;
-    let ed25519 = ObjectIdentifier::new("1.3.101.112")?;
-    let id = AlgorithmIdentifierRef::from_der(&P256)?;
-    assert_eq!(rt; id.oids(), Ok((ec, Some(curve))));
-    assert_eq!(rt; id.parameters_oid(), Ok(curve));
-    let unknown = Err(Error::OidUnknown { oid: ec });
-    assert_eq!(rt; id.assert_algorithm_oid(ec), Ok(ec));
-    assert_eq!(rt; id.assert_algorithm_oid(curve), unknown);
-    let unknown = Err(Error::OidUnknown { oid: curve });
-    assert_eq!(rt; id.assert_parameters_oid(curve), Ok(curve));
-    assert_eq!(rt; id.assert_parameters_oid(ec), unknown);
+fn parameters_of_identifiers(rt: HostRuntime) {
+    let ec = known_oid(&rt, "1.2.840.10045.2.1");
+    let curve = known_oid(&rt, "1.2.840.10045.3.1.7");
+    let id = identifier(&rt, &P256);
+    same(&rt, "oids", &id.oids(), &Ok((ec, Some(curve))));
+    same(&rt, "parameters_oid", &id.parameters_oid(), &Ok(curve));
+    let no_algorithm = Err(Error::OidUnknown { oid: ec });
+    let no_parameters = Err(Error::OidUnknown { oid: curve });
+    for (oid, algorithm, parameters) in [
+        (ec, Ok(ec), no_parameters),
+        (curve, no_algorithm, Ok(curve)),
+    ] {
+        same(&rt, "algorithm", &id.assert_algorithm_oid(oid), &algorithm);
+        same(
+            &rt,
+            "parameters",
+            &id.assert_parameters_oid(oid),
+            &parameters,
+        );
+    }
+}
+
+#[test]
+fn both_oids_of_identifiers(rt: HostRuntime) {
+    let ec = known_oid(&rt, "1.2.840.10045.2.1");
+    let curve = known_oid(&rt, "1.2.840.10045.3.1.7");
+    let ed25519 = known_oid(&rt, "1.3.101.112");
+    let id = identifier(&rt, &P256);
     let rows = [
         (ec, curve, Ok(())),
         (ed25519, ed25519, Err(Error::OidUnknown { oid: ec })),
         (ec, ed25519, Err(Error::OidUnknown { oid: curve })),
     ];
     for (algorithm, parameters, wanted) in rows {
-        assert_eq!(rt; id.assert_oids(algorithm, parameters), wanted);
+        same(&rt, "oids", &id.assert_oids(algorithm, parameters), &wanted);
     }
-    Ok(())
 }
 
 #[test]
-fn absent_and_null_parameters(rt: HostRuntime) -> Result<(), Fail> {
-    let ed25519 = ObjectIdentifier::new("1.3.101.112")?;
-    let none = AlgorithmIdentifierRef::from_der(&ED25519)?;
-    let missing = Error::AlgorithmParametersMissing;
-    assert_eq!(rt; none.oids(), Ok((ed25519, None)));
-    assert_eq!(rt; none.parameters_any(), Err(missing));
-    assert_eq!(rt; none.parameters_oid(), Err(missing));
-    let null = AlgorithmIdentifierRef::from_der(&WITH_NULL)?;
+fn absent_and_null_parameters(rt: HostRuntime) {
+    let ed25519 = known_oid(&rt, "1.3.101.112");
     let unexpected = der_small::Error::TagUnexpected {
         expected: Tag::from_valid(Tag::OID),
         actual: Tag::from_valid(Tag::NULL),
     };
-    assert_eq!(rt; null.oids(), Ok((ed25519, None)));
-    assert_eq!(rt; null.parameters_any().map(|p| p.is_null()), Ok(true));
-    assert_eq!(rt; null.parameters_oid(), Err(Error::Asn1(unexpected)));
-    assert!(rt; null != none);
-    Ok(())
+    let missing = Error::AlgorithmParametersMissing;
+    let rows = [
+        (ED25519.as_slice(), Err(missing), missing),
+        (WITH_NULL.as_slice(), Ok(true), Error::Asn1(unexpected)),
+    ];
+    for (document, is_null, refusal) in rows {
+        let id = identifier(&rt, document);
+        same(&rt, "oids", &id.oids(), &Ok((ed25519, None)));
+        same(
+            &rt,
+            "any",
+            &id.parameters_any().map(|p| p.is_null()),
+            &is_null,
+        );
+        same(&rt, "oid", &id.parameters_oid(), &Err(refusal));
+    }
+    assert!(rt; identifier(&rt, &WITH_NULL) != identifier(&rt, &ED25519));
 }
 
 #[test]
-fn parameters_of_another_type(rt: HostRuntime) -> Result<(), Fail> {
-    let curve = ObjectIdentifier::new("1.2.840.10045.3.1.7")?;
-    let known = AlgorithmIdentifierWithOid::from_der(&P256)?;
-    assert_eq!(rt; known.parameters, Some(curve));
-    assert_eq!(rt; known.to_der(rt.alloc())?.as_slice(), P256.as_slice());
-    Ok(())
+fn parameters_of_another_type(rt: HostRuntime) {
+    let curve = known_oid(&rt, "1.2.840.10045.3.1.7");
+    let known = good(
+        &rt,
+        "an algorithm",
+        AlgorithmIdentifierWithOid::from_der(&P256),
+    );
+    same(&rt, "parameters", &known.parameters, &Some(curve));
+    let written = good(&rt, "memory", known.to_der(rt.alloc()));
+    same_bytes(&rt, "written", written.as_slice(), P256.as_slice());
 }
 
 #[test]
-fn forms_of_identifiers(rt: HostRuntime) -> Result<(), Fail> {
-    let id = AlgorithmIdentifierRef::from_der(&P256)?;
-    let owned = id.ref_to_owned(rt.alloc())?;
-    let read = AlgorithmIdentifierOwned::from_der(rt.alloc(), &P256)?;
+fn forms_of_identifiers(rt: HostRuntime) {
+    let id = identifier(&rt, &P256);
+    let owned = good(&rt, "memory", id.ref_to_owned(rt.alloc()));
+    let read = good(
+        &rt,
+        "an algorithm",
+        AlgorithmIdentifierOwned::from_der(rt.alloc(), &P256),
+    );
     assert!(rt; read == owned);
-    assert_eq!(rt; owned.owned_to_ref(), id);
-    assert_eq!(rt; owned.as_algo_ref(), id.as_algo_ref());
-    assert_eq!(rt; owned.to_der(rt.alloc())?.as_slice(), P256.as_slice());
-    Ok(())
+    same(&rt, "owned_to_ref", &owned.owned_to_ref(), &id);
+    same(&rt, "as_algo_ref", &owned.as_algo_ref(), &id.as_algo_ref());
+    let written = good(&rt, "memory", owned.to_der(rt.alloc()));
+    same_bytes(&rt, "written", written.as_slice(), P256.as_slice());
 }
 
 // An absent parameter stands before a present one, and a shorter content before a longer one.
 #[test]
-fn orders_of_identifiers(rt: HostRuntime) -> Result<(), Fail> {
-    let id = AlgorithmIdentifierRef::from_der(&P256)?;
-    let none = AlgorithmIdentifierRef::from_der(&ED25519)?;
-    let null = AlgorithmIdentifierRef::from_der(&WITH_NULL)?;
-    assert_eq!(rt; none.value_cmp(&null), Ok(Ordering::Less));
-    assert_eq!(rt; null.der_cmp(&null), Ok(Ordering::Equal));
-    assert_eq!(rt; id.value_cmp(&none), Ok(Ordering::Greater));
-    assert_eq!(rt; id.cmp(&none), Ordering::Less);
-    Ok(())
+fn orders_of_identifiers(rt: HostRuntime) {
+    let id = identifier(&rt, &P256);
+    let none = identifier(&rt, &ED25519);
+    let null = identifier(&rt, &WITH_NULL);
+    same(&rt, "absent", &none.value_cmp(&null), &Ok(Ordering::Less));
+    same(&rt, "the same", &null.der_cmp(&null), &Ok(Ordering::Equal));
+    same(&rt, "longer", &id.value_cmp(&none), &Ok(Ordering::Greater));
+    same(&rt, "cmp", &id.cmp(&none), &Ordering::Less);
 }
 
 // As Rust derives it: the name of the type, and its fields in order.
 #[test]
-fn debug_forms(rt: HostRuntime) -> Result<(), Fail> {
-    let null = AlgorithmIdentifierRef::from_der(&WITH_NULL)?;
+fn debug_forms(rt: HostRuntime) {
+    let null = identifier(&rt, &WITH_NULL);
     let parameters = null.parameters;
-    assert_eq!(rt;
-        format!(in rt.alloc(); "{parameters:?}")?.as_str(),
-        "Some(AnyRef { tag: Tag { byte: 5 }, value: [] })"
+    let shown = good(&rt, "memory", format!(in rt.alloc(); "{parameters:?}"));
+    same_text(
+        &rt,
+        "a text",
+        shown.as_str(),
+        "Some(AnyRef { tag: Tag { byte: 5 }, value: [] })",
     );
-    let shown = format!(in rt.alloc(); "{null:?}")?;
+    let shown = good(&rt, "memory", format!(in rt.alloc(); "{null:?}"));
     assert!(rt; shown.as_str().starts_with("AlgorithmIdentifier { oid: "));
     assert!(rt;
         shown.as_str().ends_with(", parameters: Some(AnyRef { tag: Tag { byte: 5 }, value: [] }) }")
     );
-    Ok(())
 }
 
 ghost use Rattle.std.specs.Prelude.{◌≡◌, [], ◌∷◌, Some, Ok, IsSome, IfSome};
@@ -175,14 +217,27 @@ impl SignatureBitStringEncoding for OnCurve {
 }
 
 #[test]
-fn identifiers_of_a_type(rt: HostRuntime) -> Result<(), Fail> {
-    let wanted = AlgorithmIdentifierOwned::from_der(rt.alloc(), &P256)?;
-    assert_eq!(rt; OnCurve.algorithm_identifier(rt.alloc())?, wanted);
-    assert_eq!(rt; OnCurve.signature_algorithm_identifier(rt.alloc())?, wanted);
-    let bits = OnCurve.to_bitstring(rt.alloc())?;
-    assert_eq!(rt;
-        bits.to_der(rt.alloc())?.as_slice(),
-        [3, 2, 0, 170].as_slice()
+fn identifiers_of_a_type(rt: HostRuntime) {
+    let alloc = rt.alloc();
+    let wanted = good(
+        &rt,
+        "an algorithm",
+        AlgorithmIdentifierOwned::from_der(alloc, &P256),
     );
-    Ok(())
+    let of_key = good(&rt, "memory", OnCurve.algorithm_identifier(alloc));
+    same(&rt, "of a key", &of_key, &wanted);
+    let of_signature = good(&rt, "memory", OnCurve.signature_algorithm_identifier(alloc));
+    same(&rt, "of a signature", &of_signature, &wanted);
+}
+
+#[test]
+fn bits_of_a_signature(rt: HostRuntime) {
+    let bits = good(&rt, "memory", OnCurve.to_bitstring(rt.alloc()));
+    let written = good(&rt, "memory", bits.to_der(rt.alloc()));
+    same_bytes(
+        &rt,
+        "written",
+        written.as_slice(),
+        [3, 2, 0, 170].as_slice(),
+    );
 }

@@ -3,7 +3,9 @@ use der_core::Decode;
 use identity_update::{Entries, Update};
 use pkcs8::PrivateKeyInfoRef;
 use spki::SubjectPublicKeyInfoRef;
-use std::test::Fail;
+use std::alloc::Global;
+use std::process::Abort;
+use test_checks::{good, same, some};
 
 // A private key with attributes, which are empty, and its public key, by themselves.
 const PRIVATE_KEY: &[u8] =
@@ -24,82 +26,63 @@ const THREE_ENTRIES: &[u8] =
 const TWO_BUNDLES: &[u8] =
     b"MIHKMHYwdAwWc3BpZmZlOi8vZXhhbXBsZS5vcmcvYTAuAgEAMAUGAytlcAQiBCARERERERERERERERERERERERERERERERERERERERERETAqMAUGAytlcAMhAE0pFn8/GRKm9636KToFGhXAXsZ7jxcmexxVUNzoU70NMFAwJgwLZXhhbXBsZS5vcmcEF3sia2V5cyI6W3sia2lkIjoiazEifV19MCYMC2V4YW1wbGUub3JnBBd7ImtleXMiOlt7ImtpZCI6ImsyIn1dfQ==";
 
-#[test]
-fn keys_are_lent(rt: HostRuntime) -> Result<(), Fail> {
-    let update = Update::read(rt.alloc(), WITH_KEYS, 500)?;
-    let private_key = PrivateKeyInfoRef::from_der(PRIVATE_KEY)?;
-    let public_key = SubjectPublicKeyInfoRef::from_der(PUBLIC_KEY)?;
-    let first = update.entries().next();
-    assert!(rt; first.is_some());
-    if let Some(identity) = first {
-        assert!(rt; identity.private_key() == private_key);
-        assert!(rt; identity.private_key().attributes.is_some());
-        assert!(rt; identity.public_key() == public_key);
-    }
-    Ok(())
+fn read(rt: &impl Abort, alloc: Global, text: &[u8]) -> Update {
+    good(rt, "an update", Update::read(alloc, text, 500))
 }
 
 #[test]
-fn entries_come_in_order(rt: HostRuntime) -> Result<(), Fail> {
-    let update = Update::read(rt.alloc(), THREE_ENTRIES, 500)?;
-    assert_eq!(rt; update.entries().len(), 3);
+fn keys_are_lent(rt: HostRuntime) {
+    let update = read(&rt, rt.alloc(), WITH_KEYS);
+    let private_key = good(&rt, "a key", PrivateKeyInfoRef::from_der(PRIVATE_KEY));
+    let public_key = good(&rt, "a key", SubjectPublicKeyInfoRef::from_der(PUBLIC_KEY));
+    let identity = some(&rt, "an entry", update.entries().next());
+    assert!(rt; identity.private_key() == private_key);
+    assert!(rt; identity.private_key().attributes.is_some());
+    assert!(rt; identity.public_key() == public_key);
+}
+
+#[test]
+fn entries_come_in_order(rt: HostRuntime) {
+    let update = read(&rt, rt.alloc(), THREE_ENTRIES);
+    same(&rt, "how many", &update.entries().len(), &3);
     let mut paths = ["/x", "/y", "/z"].iter();
     for identity in update.entries() {
-        assert_eq!(rt; Some(identity.id().path()), paths.next().copied());
+        same(
+            &rt,
+            "a path",
+            &Some(identity.id().path()),
+            &paths.next().copied(),
+        );
     }
     assert!(rt; Entries::none().next().is_none());
-    Ok(())
 }
 
 #[test]
-fn last_bundle_is_kept(rt: HostRuntime) -> Result<(), Fail> {
-    let update = Update::read(rt.alloc(), TWO_BUNDLES, 500)?;
-    assert_eq!(rt; update.bundles().len(), 2);
-    assert_eq!(rt; update.bundle_set().len(), 1);
+fn last_bundle_is_kept(rt: HostRuntime) {
+    let update = read(&rt, rt.alloc(), TWO_BUNDLES);
+    same(&rt, "bundles", &update.bundles().len(), &2);
+    same(&rt, "domains", &update.bundle_set().len(), &1);
     for (_, bundle) in update.bundle_set().iter() {
         assert!(rt; bundle.find_jwt_authority("k1").is_none());
         assert!(rt; bundle.find_jwt_authority("k2").is_some());
     }
-    Ok(())
 }
 
-// Two texts, their width, and whether they write the same update.
-fn pairs() -> [(&'static [u8], &'static [u8], bool); 5] {
-    [
-        (
-            b"MIGWMHYwdAwWc3BpZmZlOi8vZXhhbXBsZS5vcmcvYTAuAgEAMAUGAytlcAQiBCARERERERERERERERERERERERERERERERERERERERERETAqMAUGAytlcAMhAE0pFn8/GRKm9636KToFGhXAXsZ7jxcmexxVUNzoU70NMBwwGgwLZXhhbXBsZS5vcmcEC3sia2V5cyI6W119",
-            b"MIGhMHYwdAwWU1BJRkZFOi8vRXhhbXBsZS5PUkcvYTAuAgEAMAUGAytlcAQiBCARERERERERERERERERERERERERERERERERERERERERETAqMAUGAytlcAMhAE0pFn8/GRKm9636KToFGhXAXsZ7jxcmexxVUNzoU70NMCcwJQwWc3BpZmZlOi8vRVhBTVBMRS5vcmcveAQLeyJrZXlzIjpbXX0=",
-            true,
-        ),
-        (
-            b"MIGWMHYwdAwWc3BpZmZlOi8vZXhhbXBsZS5vcmcvYTAuAgEAMAUGAytlcAQiBCARERERERERERERERERERERERERERERERERERERERERETAqMAUGAytlcAMhAE0pFn8/GRKm9636KToFGhXAXsZ7jxcmexxVUNzoU70NMBwwGgwLZXhhbXBsZS5vcmcEC3sia2V5cyI6W119",
-            b"MIGYMHgwdgwWc3BpZmZlOi8vZXhhbXBsZS5vcmcvYTAwAgEAMAUGAytlcAQiBCAREREREREREREREREREREREREREREREREREREREREREaAAMCowBQYDK2VwAyEATSkWfz8ZEqb3rfopOgUaFcBexnuPFyZ7HFVQ3OhTvQ0wHDAaDAtleGFtcGxlLm9yZwQLeyJrZXlzIjpbXX0=",
-            false,
-        ),
-        (
-            b"MIGWMHYwdAwWc3BpZmZlOi8vZXhhbXBsZS5vcmcvYTAuAgEAMAUGAytlcAQiBCARERERERERERERERERERERERERERERERERERERERERETAqMAUGAytlcAMhAE0pFn8/GRKm9636KToFGhXAXsZ7jxcmexxVUNzoU70NMBwwGgwLZXhhbXBsZS5vcmcEC3sia2V5cyI6W119",
-            b"MIGaMHoweAwWc3BpZmZlOi8vZXhhbXBsZS5vcmcvYTAyAgEAMAUGAytlcAQiBCAREREREREREREREREREREREREREREREREREREREREREaECBQAwKjAFBgMrZXADIQBNKRZ/PxkSpvet+ik6BRoVwF7Ge48XJnscVVDc6FO9DTAcMBoMC2V4YW1wbGUub3JnBAt7ImtleXMiOltdfQ==",
-            true,
-        ),
-        (
-            b"MCYwADAcMBoMC2V4YW1wbGUub3JnBAt7ImtleXMiOltdfYAEZ29uZQ==",
-            b"MCYwADAcMBoMC2V4YW1wbGUub3JnBAt7ImtleXMiOltdfYAEbG9zdA==",
-            false,
-        ),
-        (
-            b"MCYwADAcMBoMC2V4YW1wbGUub3JnBAt7ImtleXMiOltdfYAEZ29uZQ==",
-            b"MAowADAAgARnb25l",
-            false,
-        ),
-    ]
-}
+// A row says whether two texts write the same update, and has the two.
+const PAIRS: &str =
+    "true = MIGWMHYwdAwWc3BpZmZlOi8vZXhhbXBsZS5vcmcvYTAuAgEAMAUGAytlcAQiBCARERERERERERERERERERERERERERERERERERERERERETAqMAUGAytlcAMhAE0pFn8/GRKm9636KToFGhXAXsZ7jxcmexxVUNzoU70NMBwwGgwLZXhhbXBsZS5vcmcEC3sia2V5cyI6W119 = MIGhMHYwdAwWU1BJRkZFOi8vRXhhbXBsZS5PUkcvYTAuAgEAMAUGAytlcAQiBCARERERERERERERERERERERERERERERERERERERERERETAqMAUGAytlcAMhAE0pFn8/GRKm9636KToFGhXAXsZ7jxcmexxVUNzoU70NMCcwJQwWc3BpZmZlOi8vRVhBTVBMRS5vcmcveAQLeyJrZXlzIjpbXX0=
+false = MIGWMHYwdAwWc3BpZmZlOi8vZXhhbXBsZS5vcmcvYTAuAgEAMAUGAytlcAQiBCARERERERERERERERERERERERERERERERERERERERERETAqMAUGAytlcAMhAE0pFn8/GRKm9636KToFGhXAXsZ7jxcmexxVUNzoU70NMBwwGgwLZXhhbXBsZS5vcmcEC3sia2V5cyI6W119 = MIGYMHgwdgwWc3BpZmZlOi8vZXhhbXBsZS5vcmcvYTAwAgEAMAUGAytlcAQiBCAREREREREREREREREREREREREREREREREREREREREREaAAMCowBQYDK2VwAyEATSkWfz8ZEqb3rfopOgUaFcBexnuPFyZ7HFVQ3OhTvQ0wHDAaDAtleGFtcGxlLm9yZwQLeyJrZXlzIjpbXX0=
+true = MIGWMHYwdAwWc3BpZmZlOi8vZXhhbXBsZS5vcmcvYTAuAgEAMAUGAytlcAQiBCARERERERERERERERERERERERERERERERERERERERERETAqMAUGAytlcAMhAE0pFn8/GRKm9636KToFGhXAXsZ7jxcmexxVUNzoU70NMBwwGgwLZXhhbXBsZS5vcmcEC3sia2V5cyI6W119 = MIGaMHoweAwWc3BpZmZlOi8vZXhhbXBsZS5vcmcvYTAyAgEAMAUGAytlcAQiBCAREREREREREREREREREREREREREREREREREREREREREaECBQAwKjAFBgMrZXADIQBNKRZ/PxkSpvet+ik6BRoVwF7Ge48XJnscVVDc6FO9DTAcMBoMC2V4YW1wbGUub3JnBAt7ImtleXMiOltdfQ==
+false = MCYwADAcMBoMC2V4YW1wbGUub3JnBAt7ImtleXMiOltdfYAEZ29uZQ== = MCYwADAcMBoMC2V4YW1wbGUub3JnBAt7ImtleXMiOltdfYAEbG9zdA==
+false = MCYwADAcMBoMC2V4YW1wbGUub3JnBAt7ImtleXMiOltdfYAEZ29uZQ== = MAowADAAgARnb25l";
 
 #[test]
-fn updates_are_compared(rt: HostRuntime) -> Result<(), Fail> {
-    for (first, second, same) in pairs() {
-        let first = Update::read(rt.alloc(), first, 400)?;
-        let second = Update::read(rt.alloc(), second, 400)?;
-        assert_eq!(rt; first == second, same);
+fn updates_are_compared(rt: HostRuntime) {
+    for row in PAIRS.lines() {
+        let (is_same, texts) = some(&rt, "an answer", row.split_once(" = "));
+        let (first, second) = some(&rt, "two texts", texts.split_once(" = "));
+        let first = read(&rt, rt.alloc(), first.as_bytes());
+        let second = read(&rt, rt.alloc(), second.as_bytes());
+        same(&rt, row, &(first == second), &(is_same == "true"));
     }
-    Ok(())
 }

@@ -5,7 +5,8 @@ use spiffe_core::{JsonError, JwtBundleError};
 use spiffe_id::{SpiffeId, TrustDomain};
 use spki::SubjectPublicKeyInfoOwned;
 use std::alloc::Global;
-use std::test::Fail;
+use std::process::Abort;
+use test_checks::{good, same};
 
 const PLAIN: &[u8] =
     b"\x30\x2e\x02\x01\x00\x30\x05\x06\x03\x2b\x65\x70\x04\x22\x04\x20\x11\x11\x11\x11\x11\x11\x11\x11\x11\x11\x11\x11\x11\x11\x11\x11\x11\x11\x11\x11\x11\x11\x11\x11\x11\x11\x11\x11\x11\x11\x11\x11";
@@ -34,37 +35,56 @@ const ONE_WITH_ATTRIBUTES: &[u8] =
 
 const WITHDRAWN: &[u8] = b"MCYwADAcMBoMC2V4YW1wbGUub3JnBAt7ImtleXMiOltdfYAEZ29uZQ==";
 
-fn entry(alloc: Global, id: &str, private_key: &[u8]) -> Result<EntryParts, Fail> {
-    Ok(EntryParts {
-        id: SpiffeId::new(alloc, id)?,
-        private_key: PrivateKeyInfoOwned::from_der(alloc, private_key)?,
-        public_key: SubjectPublicKeyInfoOwned::from_der(alloc, PUBLIC_KEY)?,
-    })
+fn entry(rt: &impl Abort, alloc: Global, id: &str, private_key: &[u8]) -> EntryParts {
+    EntryParts {
+        id: good(rt, "an id", SpiffeId::new(alloc, id)),
+        private_key: good(
+            rt,
+            "a key",
+            PrivateKeyInfoOwned::from_der(alloc, private_key),
+        ),
+        public_key: good(
+            rt,
+            "a key",
+            SubjectPublicKeyInfoOwned::from_der(alloc, PUBLIC_KEY),
+        ),
+    }
 }
 
-fn bundle(alloc: Global, domain: &str, jwks: &[u8]) -> Result<BundleParts, Fail> {
-    Ok(BundleParts {
-        trust_domain: TrustDomain::new(alloc, domain)?,
-        jwks: Vec::from_slice(alloc, jwks)?,
-    })
+fn one_bundle(rt: &impl Abort, alloc: Global, domain: &str, jwks: &[u8]) -> Vec<BundleParts> {
+    let bundle = BundleParts {
+        trust_domain: good(rt, "a trust domain", TrustDomain::new(alloc, domain)),
+        jwks: good(rt, "memory", Vec::from_slice(alloc, jwks)),
+    };
+    let mut bundles = Vec::new(alloc);
+    good(rt, "memory", bundles.push(bundle));
+    bundles
 }
 
 // An update of one entry and one bundle.
 fn one_entry(
+    rt: &impl Abort,
     alloc: Global,
     id: &str,
     private_key: &[u8],
     jwks: &[u8],
-) -> Result<Result<Update, UpdateError>, Fail> {
+) -> Result<Update, UpdateError> {
     let mut entries = Vec::new(alloc);
-    entries.push(entry(alloc, id, private_key)?)?;
-    let mut bundles = Vec::new(alloc);
-    bundles.push(bundle(alloc, "Example.ORG", jwks)?)?;
-    Ok(Update::from_parts(alloc, entries, bundles))
+    good(
+        rt,
+        "memory",
+        entries.push(entry(rt, alloc, id, private_key)),
+    );
+    let bundles = one_bundle(rt, alloc, "Example.ORG", jwks);
+    Update::from_parts(alloc, entries, bundles)
+}
+
+fn read(rt: &impl Abort, alloc: Global, text: &[u8], width: usize) -> Update {
+    good(rt, "an update", Update::read(alloc, text, width))
 }
 
 #[test]
-fn parts_make_the_update_that_is_read(rt: HostRuntime) -> Result<(), Fail> {
+fn parts_make_the_update_that_is_read(rt: HostRuntime) {
     let alloc = rt.alloc();
     for (id, private_key, text, width) in [
         ("spiffe://example.org/a", PLAIN, ONE_ENTRY, 64),
@@ -76,16 +96,16 @@ fn parts_make_the_update_that_is_read(rt: HostRuntime) -> Result<(), Fail> {
             300,
         ),
     ] {
-        let update = one_entry(alloc, id, private_key, KEY_SET)??;
-        assert!(rt; update == Update::read(alloc, text, width)?);
-        assert_eq!(rt; update.bundle_set().len(), 1);
+        let made = one_entry(&rt, alloc, id, private_key, KEY_SET);
+        let update = good(&rt, "an update", made);
+        assert!(rt; update == read(&rt, alloc, text, width));
+        same(&rt, "domains", &update.bundle_set().len(), &1);
         assert!(rt; update.reason().is_none());
     }
-    Ok(())
 }
 
 #[test]
-fn first_rules_that_parts_break_are_named(rt: HostRuntime) -> Result<(), Fail> {
+fn first_rules_that_parts_break_are_named(rt: HostRuntime) {
     let alloc = rt.alloc();
     for (id, private_key, jwks, refusal) in [
         (
@@ -116,45 +136,53 @@ fn first_rules_that_parts_break_are_named(rt: HostRuntime) -> Result<(), Fail> {
             UpdateError::MissingBundle { entry: 0 },
         ),
     ] {
-        let made = one_entry(alloc, id, private_key, jwks)?;
-        assert!(rt; made == Err(refusal));
+        let made = one_entry(&rt, alloc, id, private_key, jwks);
+        same(&rt, id, &made.err(), &Some(refusal));
     }
     let none = Update::from_parts(alloc, Vec::new(alloc), Vec::new(alloc));
-    assert!(rt; none == Err(UpdateError::MissingRequiredField));
-    Ok(())
-}
-
-#[test]
-fn withdrawals_are_made(rt: HostRuntime) -> Result<(), Fail> {
-    let alloc = rt.alloc();
-    let mut bundles = Vec::new(alloc);
-    bundles.push(bundle(alloc, "example.org", KEY_SET)?)?;
-    let gone = Update::withdrawal(alloc, "gone", bundles)?;
-    assert!(rt; gone == Update::read(alloc, WITHDRAWN, 56)?);
-    let mut broken = Vec::new(alloc);
-    broken.push(bundle(alloc, "example.org", b"{")?)?;
-    let refused = Update::withdrawal(alloc, "gone", broken);
-    assert!(rt;
-        refused
-            == Err(UpdateError::Authorities {
-                bundle: 0,
-                cause: JwtBundleError::Deserialize(JsonError::Syntax)
-            })
+    same(
+        &rt,
+        "no parts",
+        &none.err(),
+        &Some(UpdateError::MissingRequiredField),
     );
-    Ok(())
 }
 
 #[test]
-fn reasons_have_1_to_255_bytes(rt: HostRuntime) -> Result<(), Fail> {
+fn withdrawals_are_made(rt: HostRuntime) {
     let alloc = rt.alloc();
-    for (len, is_taken) in [(0, false), (1, true), (255, true), (256, false)] {
-        let reason = String::from_utf8(vec![in alloc; b'r'; len]?)?;
+    let bundles = one_bundle(&rt, alloc, "example.org", KEY_SET);
+    let gone = good(
+        &rt,
+        "a withdrawal",
+        Update::withdrawal(alloc, "gone", bundles),
+    );
+    assert!(rt; gone == read(&rt, alloc, WITHDRAWN, 56));
+    let broken = one_bundle(&rt, alloc, "example.org", b"{");
+    let refusal = UpdateError::Authorities {
+        bundle: 0,
+        cause: JwtBundleError::Deserialize(JsonError::Syntax),
+    };
+    let refused = Update::withdrawal(alloc, "gone", broken).err();
+    same(&rt, "a broken bundle", &refused, &Some(refusal));
+}
+
+#[test]
+fn reasons_have_1_to_255_bytes(rt: HostRuntime) {
+    let alloc = rt.alloc();
+    let malformed = UpdateError::Document(der_core::Error::Malformed);
+    for (len, refusal) in [
+        (0, Some(malformed)),
+        (1, None),
+        (255, None),
+        (256, Some(UpdateError::Document(der_core::Error::Malformed))),
+    ] {
+        let reason = good(&rt, "memory", "r".repeat(alloc, len));
         let made = Update::withdrawal(alloc, reason.as_str(), Vec::new(alloc));
-        if is_taken {
-            assert_eq!(rt; made?.reason(), Some(reason.as_str()));
-        } else {
-            assert!(rt; made == Err(UpdateError::Document(der_core::Error::Malformed)));
-        }
+        let kept = made
+            .as_ref()
+            .is_ok_and(|update| update.reason() == Some(reason.as_str()));
+        same(&rt, "kept", &kept, &refusal.is_none());
+        same(&rt, "refused", &made.err(), &refusal);
     }
-    Ok(())
 }

@@ -6,7 +6,8 @@ use identity_update::{Update, UpdateError};
 use spiffe_core::{JsonError, JwtBundleError};
 use spiffe_id::SpiffeIdError;
 use std::alloc::Global;
-use std::test::Fail;
+use std::process::Abort;
+use test_checks::{good, same};
 
 // Entries of the trust domain `a`: one that breaks no rule, one of another scheme, one with two algorithms, and
 // one whose private key holds another public key. A number beyond them stands for no entry.
@@ -34,12 +35,13 @@ const ENDS: [(&[u8], &[u8]); 5] = [
     (b"\x80\x04gone", b"\x00"),
 ];
 
-fn sequence(alloc: Global, first: &[u8], second: &[u8], last: &[u8]) -> Result<Vec<u8>, Fail> {
+fn sequence(rt: &impl Abort, alloc: Global, first: &[u8], second: &[u8], last: &[u8]) -> Vec<u8> {
     let mut content = Vec::new(alloc);
-    content.extend_from_slice(first)?;
-    content.extend_from_slice(second)?;
-    content.extend_from_slice(last)?;
-    Ok(AnyRef::new(Tag::from_valid(Tag::SEQUENCE), &content)?.to_der(alloc)?)
+    for part in [first, second, last] {
+        good(rt, "memory", content.extend_from_slice(part));
+    }
+    let value = AnyRef::new(Tag::from_valid(Tag::SEQUENCE), &content);
+    good(rt, "memory", good(rt, "a value", value).to_der(alloc))
 }
 
 fn entry_rule(kind: usize, entry: usize) -> Option<UpdateError> {
@@ -105,22 +107,22 @@ fn part(parts: &[&'static [u8]], number: usize) -> &'static [u8] {
 }
 
 #[test]
-fn first_of_all_broken_rules_is_named(rt: HostRuntime) -> Result<(), Fail> {
+fn first_of_all_broken_rules_is_named(rt: HostRuntime) {
     let alloc = rt.alloc();
     for (end, (reason, behind)) in ENDS.iter().enumerate() {
         for number in 0..400 {
             let entries = (number % 5, number / 5 % 5);
             let bundles = (number / 25 % 4, number / 100);
             let (first, second) = (part(&ENTRIES, entries.0), part(&ENTRIES, entries.1));
-            let identities = sequence(alloc, first, second, b"")?;
+            let identities = sequence(&rt, alloc, first, second, b"");
             let (first, second) = (part(&BUNDLES, bundles.0), part(&BUNDLES, bundles.1));
-            let listed = sequence(alloc, first, second, b"")?;
-            let mut document = sequence(alloc, &identities, &listed, reason)?;
+            let listed = sequence(&rt, alloc, first, second, b"");
+            let mut document = sequence(&rt, alloc, &identities, &listed, reason);
             let rule = first_rule(entries, bundles, end, document.len());
-            document.extend_from_slice(behind)?;
-            let text = Base64::encode_string(alloc, &document)?;
-            assert_eq!(rt; Update::read(alloc, text.as_bytes(), 1000).err(), rule);
+            good(&rt, "memory", document.extend_from_slice(behind));
+            let text = good(&rt, "memory", Base64::encode_string(alloc, &document));
+            let refusal = Update::read(alloc, text.as_bytes(), 1000).err();
+            same(&rt, text.as_str(), &refusal, &rule);
         }
     }
-    Ok(())
 }

@@ -1,80 +1,68 @@
 //! Texts of updates. The documents are put together from the grammar by a few lines of Python, and written by its `base64`.
+use super::lines_of;
 use base64ct::LineEnding;
 use identity_update::Update;
-use std::test::Fail;
+use std::alloc::Global;
+use std::process::Abort;
+use test_checks::{good, same, same_bytes, some};
 
-type Row = (&'static [u8], usize, usize, LineEnding, &'static str);
+// A row has the width of a text; a width and an ending; the text; and the text that is written so: ids and domains in their
+// canonical texts, attributes kept, extensions left out, bundles kept that a later one replaces, and the reason. In a text `,`
+// stands for LF and `;` for CR.
+const ROWS: &str =
+    "204 = 64 = LF = MIGWMHYwdAwWc3BpZmZlOi8vZXhhbXBsZS5vcmcvYTAuAgEAMAUGAytlcAQiBCARERERERERERERERERERERERERERERERERERERERERETAqMAUGAytlcAMhAE0pFn8/GRKm9636KToFGhXAXsZ7jxcmexxVUNzoU70NMBwwGgwLZXhhbXBsZS5vcmcEC3sia2V5cyI6W119 = MIGWMHYwdAwWc3BpZmZlOi8vZXhhbXBsZS5vcmcvYTAuAgEAMAUGAytlcAQiBCAR,ERERERERERERERERERERERERERERERERERERERERETAqMAUGAytlcAMhAE0pFn8/,GRKm9636KToFGhXAXsZ7jxcmexxVUNzoU70NMBwwGgwLZXhhbXBsZS5vcmcEC3si,a2V5cyI6W119
+204 = 100 = CRLF = MIGWMHYwdAwWc3BpZmZlOi8vZXhhbXBsZS5vcmcvYTAuAgEAMAUGAytlcAQiBCARERERERERERERERERERERERERERERERERERERERERETAqMAUGAytlcAMhAE0pFn8/GRKm9636KToFGhXAXsZ7jxcmexxVUNzoU70NMBwwGgwLZXhhbXBsZS5vcmcEC3sia2V5cyI6W119 = MIGWMHYwdAwWc3BpZmZlOi8vZXhhbXBsZS5vcmcvYTAuAgEAMAUGAytlcAQiBCARERERERERERERERERERERERERERERERERERER;,ERERETAqMAUGAytlcAMhAE0pFn8/GRKm9636KToFGhXAXsZ7jxcmexxVUNzoU70NMBwwGgwLZXhhbXBsZS5vcmcEC3sia2V5cyI6;,W119
+204 = 50 = CR = MIGWMHYwdAwWc3BpZmZlOi8vZXhhbXBsZS5vcmcvYTAuAgEAMAUGAytlcAQiBCARERERERERERERERERERERERERERERERERERERERERETAqMAUGAytlcAMhAE0pFn8/GRKm9636KToFGhXAXsZ7jxcmexxVUNzoU70NMBwwGgwLZXhhbXBsZS5vcmcEC3sia2V5cyI6W119 = MIGWMHYwdAwWc3BpZmZlOi8vZXhhbXBsZS5vcmcvYTAuAgEAMA;UGAytlcAQiBCARERERERERERERERERERERERERERERERERERER;ERERETAqMAUGAytlcAMhAE0pFn8/GRKm9636KToFGhXAXsZ7jx;cmexxVUNzoU70NMBwwGgwLZXhhbXBsZS5vcmcEC3sia2V5cyI6;W119
+64 = 64 = LF = MIGhMHYwdAwWU1BJRkZFOi8vRXhhbXBsZS5PUkcvQTAuAgEAMAUGAytlcAQiBCAR,ERERERERERERERERERERERERERERERERERERERERETAqMAUGAytlcAMhAE0pFn8/,GRKm9636KToFGhXAXsZ7jxcmexxVUNzoU70NMCcwJQwWc3BpZmZlOi8vRVhBTVBM,RS5vcmcveAQLeyJrZXlzIjpbXX0= = MIGWMHYwdAwWc3BpZmZlOi8vZXhhbXBsZS5vcmcvQTAuAgEAMAUGAytlcAQiBCAR,ERERERERERERERERERERERERERERERERERERERERETAqMAUGAytlcAMhAE0pFn8/,GRKm9636KToFGhXAXsZ7jxcmexxVUNzoU70NMBwwGgwLZXhhbXBsZS5vcmcEC3si,a2V5cyI6W119
+300 = 64 = LF = MIGYMHgwdgwWc3BpZmZlOi8vZXhhbXBsZS5vcmcvYTAwAgEAMAUGAytlcAQiBCAREREREREREREREREREREREREREREREREREREREREREaAAMCowBQYDK2VwAyEATSkWfz8ZEqb3rfopOgUaFcBexnuPFyZ7HFVQ3OhTvQ0wHDAaDAtleGFtcGxlLm9yZwQLeyJrZXlzIjpbXX0= = MIGYMHgwdgwWc3BpZmZlOi8vZXhhbXBsZS5vcmcvYTAwAgEAMAUGAytlcAQiBCAR,EREREREREREREREREREREREREREREREREREREREREaAAMCowBQYDK2VwAyEATSkW,fz8ZEqb3rfopOgUaFcBexnuPFyZ7HFVQ3OhTvQ0wHDAaDAtleGFtcGxlLm9yZwQL,eyJrZXlzIjpbXX0=
+300 = 64 = LF = MIGaMHoweAwWc3BpZmZlOi8vZXhhbXBsZS5vcmcvYTAyAgEAMAUGAytlcAQiBCAREREREREREREREREREREREREREREREREREREREREREaECBQAwKjAFBgMrZXADIQBNKRZ/PxkSpvet+ik6BRoVwF7Ge48XJnscVVDc6FO9DTAcMBoMC2V4YW1wbGUub3JnBAt7ImtleXMiOltdfQ== = MIGWMHYwdAwWc3BpZmZlOi8vZXhhbXBsZS5vcmcvYTAuAgEAMAUGAytlcAQiBCAR,ERERERERERERERERERERERERERERERERERERERERETAqMAUGAytlcAMhAE0pFn8/,GRKm9636KToFGhXAXsZ7jxcmexxVUNzoU70NMBwwGgwLZXhhbXBsZS5vcmcEC3si,a2V5cyI6W119
+400 = 400 = LF = MIGzMHYwdAwWc3BpZmZlOi8vZXhhbXBsZS5vcmcvYTAuAgEAMAUGAytlcAQiBCARERERERERERERERERERERERERERERERERERERERERETAqMAUGAytlcAMhAE0pFn8/GRKm9636KToFGhXAXsZ7jxcmexxVUNzoU70NMDkwGwwLZXhhbXBsZS5vcmcEDHsia2V5cyI6W119IDAaDAtleGFtcGxlLm9yZwQLeyJrZXlzIjpbXX0= = MIGzMHYwdAwWc3BpZmZlOi8vZXhhbXBsZS5vcmcvYTAuAgEAMAUGAytlcAQiBCARERERERERERERERERERERERERERERERERERERERERETAqMAUGAytlcAMhAE0pFn8/GRKm9636KToFGhXAXsZ7jxcmexxVUNzoU70NMDkwGwwLZXhhbXBsZS5vcmcEDHsia2V5cyI6W119IDAaDAtleGFtcGxlLm9yZwQLeyJrZXlzIjpbXX0=
+56 = 64 = LF = MCYwADAcMBoMC2V4YW1wbGUub3JnBAt7ImtleXMiOltdfYAEZ29uZQ== = MCYwADAcMBoMC2V4YW1wbGUub3JnBAt7ImtleXMiOltdfYAEZ29uZQ==";
 
-// A text and its width; and a width, an ending and the text that is written so: ids and domains in their canonical texts, attributes kept, extensions left out, bundles kept that a later one replaces, and the reason.
-fn rows() -> [Row; 8] {
-    [
-        (
-            b"MIGWMHYwdAwWc3BpZmZlOi8vZXhhbXBsZS5vcmcvYTAuAgEAMAUGAytlcAQiBCARERERERERERERERERERERERERERERERERERERERERETAqMAUGAytlcAMhAE0pFn8/GRKm9636KToFGhXAXsZ7jxcmexxVUNzoU70NMBwwGgwLZXhhbXBsZS5vcmcEC3sia2V5cyI6W119",
-            204,
-            64,
-            LineEnding::LF,
-            "MIGWMHYwdAwWc3BpZmZlOi8vZXhhbXBsZS5vcmcvYTAuAgEAMAUGAytlcAQiBCAR\nERERERERERERERERERERERERERERERERERERERERETAqMAUGAytlcAMhAE0pFn8/\nGRKm9636KToFGhXAXsZ7jxcmexxVUNzoU70NMBwwGgwLZXhhbXBsZS5vcmcEC3si\na2V5cyI6W119",
-        ),
-        (
-            b"MIGWMHYwdAwWc3BpZmZlOi8vZXhhbXBsZS5vcmcvYTAuAgEAMAUGAytlcAQiBCARERERERERERERERERERERERERERERERERERERERERETAqMAUGAytlcAMhAE0pFn8/GRKm9636KToFGhXAXsZ7jxcmexxVUNzoU70NMBwwGgwLZXhhbXBsZS5vcmcEC3sia2V5cyI6W119",
-            204,
-            100,
-            LineEnding::CRLF,
-            "MIGWMHYwdAwWc3BpZmZlOi8vZXhhbXBsZS5vcmcvYTAuAgEAMAUGAytlcAQiBCARERERERERERERERERERERERERERERERERERER\r\nERERETAqMAUGAytlcAMhAE0pFn8/GRKm9636KToFGhXAXsZ7jxcmexxVUNzoU70NMBwwGgwLZXhhbXBsZS5vcmcEC3sia2V5cyI6\r\nW119",
-        ),
-        (
-            b"MIGWMHYwdAwWc3BpZmZlOi8vZXhhbXBsZS5vcmcvYTAuAgEAMAUGAytlcAQiBCARERERERERERERERERERERERERERERERERERERERERETAqMAUGAytlcAMhAE0pFn8/GRKm9636KToFGhXAXsZ7jxcmexxVUNzoU70NMBwwGgwLZXhhbXBsZS5vcmcEC3sia2V5cyI6W119",
-            204,
-            50,
-            LineEnding::CR,
-            "MIGWMHYwdAwWc3BpZmZlOi8vZXhhbXBsZS5vcmcvYTAuAgEAMA\rUGAytlcAQiBCARERERERERERERERERERERERERERERERERERER\rERERETAqMAUGAytlcAMhAE0pFn8/GRKm9636KToFGhXAXsZ7jx\rcmexxVUNzoU70NMBwwGgwLZXhhbXBsZS5vcmcEC3sia2V5cyI6\rW119",
-        ),
-        (
-            b"MIGhMHYwdAwWU1BJRkZFOi8vRXhhbXBsZS5PUkcvQTAuAgEAMAUGAytlcAQiBCAR\nERERERERERERERERERERERERERERERERERERERERETAqMAUGAytlcAMhAE0pFn8/\nGRKm9636KToFGhXAXsZ7jxcmexxVUNzoU70NMCcwJQwWc3BpZmZlOi8vRVhBTVBM\nRS5vcmcveAQLeyJrZXlzIjpbXX0=",
-            64,
-            64,
-            LineEnding::LF,
-            "MIGWMHYwdAwWc3BpZmZlOi8vZXhhbXBsZS5vcmcvQTAuAgEAMAUGAytlcAQiBCAR\nERERERERERERERERERERERERERERERERERERERERETAqMAUGAytlcAMhAE0pFn8/\nGRKm9636KToFGhXAXsZ7jxcmexxVUNzoU70NMBwwGgwLZXhhbXBsZS5vcmcEC3si\na2V5cyI6W119",
-        ),
-        (
-            b"MIGYMHgwdgwWc3BpZmZlOi8vZXhhbXBsZS5vcmcvYTAwAgEAMAUGAytlcAQiBCAREREREREREREREREREREREREREREREREREREREREREaAAMCowBQYDK2VwAyEATSkWfz8ZEqb3rfopOgUaFcBexnuPFyZ7HFVQ3OhTvQ0wHDAaDAtleGFtcGxlLm9yZwQLeyJrZXlzIjpbXX0=",
-            300,
-            64,
-            LineEnding::LF,
-            "MIGYMHgwdgwWc3BpZmZlOi8vZXhhbXBsZS5vcmcvYTAwAgEAMAUGAytlcAQiBCAR\nEREREREREREREREREREREREREREREREREREREREREaAAMCowBQYDK2VwAyEATSkW\nfz8ZEqb3rfopOgUaFcBexnuPFyZ7HFVQ3OhTvQ0wHDAaDAtleGFtcGxlLm9yZwQL\neyJrZXlzIjpbXX0=",
-        ),
-        (
-            b"MIGaMHoweAwWc3BpZmZlOi8vZXhhbXBsZS5vcmcvYTAyAgEAMAUGAytlcAQiBCAREREREREREREREREREREREREREREREREREREREREREaECBQAwKjAFBgMrZXADIQBNKRZ/PxkSpvet+ik6BRoVwF7Ge48XJnscVVDc6FO9DTAcMBoMC2V4YW1wbGUub3JnBAt7ImtleXMiOltdfQ==",
-            300,
-            64,
-            LineEnding::LF,
-            "MIGWMHYwdAwWc3BpZmZlOi8vZXhhbXBsZS5vcmcvYTAuAgEAMAUGAytlcAQiBCAR\nERERERERERERERERERERERERERERERERERERERERETAqMAUGAytlcAMhAE0pFn8/\nGRKm9636KToFGhXAXsZ7jxcmexxVUNzoU70NMBwwGgwLZXhhbXBsZS5vcmcEC3si\na2V5cyI6W119",
-        ),
-        (
-            b"MIGzMHYwdAwWc3BpZmZlOi8vZXhhbXBsZS5vcmcvYTAuAgEAMAUGAytlcAQiBCARERERERERERERERERERERERERERERERERERERERERETAqMAUGAytlcAMhAE0pFn8/GRKm9636KToFGhXAXsZ7jxcmexxVUNzoU70NMDkwGwwLZXhhbXBsZS5vcmcEDHsia2V5cyI6W119IDAaDAtleGFtcGxlLm9yZwQLeyJrZXlzIjpbXX0=",
-            400,
-            400,
-            LineEnding::LF,
-            "MIGzMHYwdAwWc3BpZmZlOi8vZXhhbXBsZS5vcmcvYTAuAgEAMAUGAytlcAQiBCARERERERERERERERERERERERERERERERERERERERERETAqMAUGAytlcAMhAE0pFn8/GRKm9636KToFGhXAXsZ7jxcmexxVUNzoU70NMDkwGwwLZXhhbXBsZS5vcmcEDHsia2V5cyI6W119IDAaDAtleGFtcGxlLm9yZwQLeyJrZXlzIjpbXX0=",
-        ),
-        (
-            b"MCYwADAcMBoMC2V4YW1wbGUub3JnBAt7ImtleXMiOltdfYAEZ29uZQ==",
-            56,
-            64,
-            LineEnding::LF,
-            "MCYwADAcMBoMC2V4YW1wbGUub3JnBAt7ImtleXMiOltdfYAEZ29uZQ==",
-        ),
-    ]
+fn ending(name: &str) -> LineEnding {
+    match name {
+        "CR" => LineEnding::CR,
+        "CRLF" => LineEnding::CRLF,
+        _ => LineEnding::LF,
+    }
+}
+
+fn read(rt: &impl Abort, alloc: Global, text: &[u8], width: usize) -> Update {
+    good(rt, "an update", Update::read(alloc, text, width))
+}
+
+fn check_written(
+    rt: &impl Abort,
+    alloc: Global,
+    update: &Update,
+    line: usize,
+    ending: LineEnding,
+    written: &[u8],
+) {
+    let answer = good(rt, "a text", update.to_text(alloc, line, ending));
+    same_bytes(rt, "a text", answer.as_bytes(), written);
+    assert!(rt; *update == read(rt, alloc, answer.as_bytes(), line));
+    let refusal = update.to_text(alloc, 3, ending).err();
+    same(
+        rt,
+        "a width",
+        &refusal,
+        &Some(base64ct::Error::InvalidLength),
+    );
 }
 
 #[test]
-fn updates_are_written(rt: HostRuntime) -> Result<(), Fail> {
-    for (text, width, line, ending, written) in rows() {
-        let update = Update::read(rt.alloc(), text, width)?;
-        let answer = update.to_text(rt.alloc(), line, ending)?;
-        assert_eq!(rt; answer.as_str(), written);
-        assert!(rt; update == Update::read(rt.alloc(), answer.as_bytes(), line)?);
-        assert!(rt; update.to_text(rt.alloc(), 3, ending) == Err(base64ct::Error::InvalidLength));
+fn updates_are_written(rt: HostRuntime) {
+    let alloc = rt.alloc();
+    for row in ROWS.lines() {
+        let (width, rest) = some(&rt, "a width", row.split_once(" = "));
+        let (line, rest) = some(&rt, "a width", rest.split_once(" = "));
+        let (name, rest) = some(&rt, "an ending", rest.split_once(" = "));
+        let (text, written) = some(&rt, "a text", rest.split_once(" = "));
+        let width = good(&rt, "a width", width.parse::<usize>());
+        let line = good(&rt, "a width", line.parse::<usize>());
+        let update = read(&rt, alloc, &lines_of(&rt, alloc, text), width);
+        let written = lines_of(&rt, alloc, written);
+        check_written(&rt, alloc, &update, line, ending(name), &written);
     }
-    Ok(())
 }
