@@ -2,6 +2,7 @@
 
 ghost use Rattle.std.specs.Prelude.{◌≡◌, ◌<◌};
 
+use crate::checks::{good, same};
 use base64_alphabet::{Alphabet, Base64, Base64Unpadded, DecodeStep, EncodeStep, Steps};
 use base64_alphabets::{Base64Bcrypt, Base64Pbkdf2, Base64Url, Base64UrlUnpadded};
 use base64_crypt::{Base64Crypt, Base64ShaCrypt};
@@ -10,7 +11,6 @@ use std::hash::Hash;
 use std::marker::Brand;
 use std::process::Abort;
 use std::sync::ledger::{Blank, Ledger};
-use test_checks::{good, same};
 
 // RFC 4648 section 4, table 1, and section 5, table 2.
 const STANDARD: &'static [u8; 64] =

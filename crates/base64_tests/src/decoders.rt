@@ -1,11 +1,11 @@
 //! Tests of decoders.
 ghost use Rattle.std.specs.Prelude.{◌≤◌};
 
+use crate::checks::{good, same, same_bytes};
 use crate::encoders::{TWO_HUNDRED_BYTES, two_hundred_bytes};
 use base64ct::{Base64, Decoder, Error};
 use std::alloc::{AllocError, Global};
 use std::io::{ErrorKind, Read};
-use test_checks::{good, same, same_bytes};
 
 // Characters in lines of a width, parted by CR, LF and CRLF in turn.
 fn in_mixed_lines(alloc: Global, flat: &[u8], width: usize) -> Result<Vec<u8>, AllocError>

@@ -1,6 +1,7 @@
 //! Tests of encoders and of lines.
 ghost use Rattle.std.specs.Prelude.{◌≤◌};
 
+use crate::checks::{good, same, same_bytes, same_text};
 use base64ct::{
     Base64, Base64UrlUnpadded, Decoder, Encoder, Error, LineEnding, wrapped_encoding_is_read_back,
     wrapped_len, wrapped_text_is_lines, wrapping_is_injective,
@@ -8,7 +9,6 @@ use base64ct::{
 use std::alloc::{AllocError, Global};
 use std::io::{ErrorKind, Write};
 use std::process::Abort;
-use test_checks::{good, same, same_bytes, same_text};
 
 const ENDINGS: [LineEnding; 3] = [LineEnding::CR, LineEnding::LF, LineEnding::CRLF];
 

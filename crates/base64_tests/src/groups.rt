@@ -2,11 +2,11 @@
 
 ghost use Rattle.std.specs.Prelude.{◌≡◌, ◌<◌};
 
+use crate::checks::same;
 use base64_alphabet::{Alphabet, Base64, Base64Unpadded, Steps, decode_blocks, encode_blocks};
 use base64_crypt::Base64ShaCrypt;
 use std::marker::Brand;
 use std::sync::ledger::{Blank, Ledger};
-use test_checks::same;
 
 // Two groups to their characters and back, each conversion counted.
 fn there_and_back<E: Alphabet, L: Ledger>(bytes: &[u8; 6], blank: Blank) -> ([u8; 8], [u8; 6], bool)

@@ -6,6 +6,7 @@ ghost use Rattle.base64_alphabet.specs.Standard.{standard};
 ghost use Rattle.base64ct.specs.Canonical.{is_clean, unpadded_len};
 ghost use Rattle.base64ct.specs.Counts.{decode_count};
 
+use crate::checks::same;
 use crate::texts::is_read;
 use base64ct::{
     Alphabet, Base64, Base64Bcrypt, Base64Crypt, Base64Pbkdf2, Base64ShaCrypt, Base64Unpadded,
@@ -14,7 +15,6 @@ use base64ct::{
 use std::alloc::Global;
 use std::marker::Brand;
 use std::sync::ledger::{Blank, Ledger};
-use test_checks::same;
 
 // Whether the encodings of the fronts of the bytes begin with their groups one by one, and are decoded to
 // the fronts.

@@ -4,6 +4,8 @@
 #[cfg(test)]
 mod alphabets;
 #[cfg(test)]
+mod checks;
+#[cfg(test)]
 mod decoders;
 #[cfg(test)]
 mod encoders;

@@ -5,6 +5,7 @@ ghost use Rattle.base64_alphabet.specs.Standard.{standard};
 ghost use Rattle.base64ct.specs.Canonical.{is_clean, unpadded_len};
 ghost use Rattle.base64ct.specs.Counts.{decode_count};
 
+use crate::checks::{good, same, same_bytes, same_text};
 use base64ct::{
     Base64, Base64Bcrypt, Base64Crypt, Base64Pbkdf2, Base64ShaCrypt, Base64Unpadded, Base64Url,
     Base64UrlUnpadded, Decoder, Encoder, Encoding, Error, InvalidEncodingError, InvalidLengthError,
@@ -15,7 +16,6 @@ use std::alloc::Global;
 use std::marker::Brand;
 use std::process::Abort;
 use std::sync::ledger::{Blank, Ledger};
-use test_checks::{good, same, same_bytes, same_text};
 
 // An update document of 153 bytes, by hand from its parts: one entry, one bundle.
 const DOCUMENT: &[u8] =

@@ -1,6 +1,7 @@
 //! The texts are by a script from the grammar of `docs/FORMATS.md`; the revisions follow from how many texts were applied.
 ghost use Rattle.std.specs.Prelude.{◌≡◌, IfOk};
 
+use crate::checks::{good, same};
 use identity_source::{
     IdentityReader, IdentitySource, KeptReader, Look, Missed, Receipt, Snapshot, SourceError,
     UpdateError, Window,
@@ -9,7 +10,6 @@ use spiffe_core::BundleSource;
 use spiffe_id::TrustDomain;
 use std::alloc::Global;
 use std::sync::Wait;
-use test_checks::{good, same};
 
 /// One identity, `spiffe://example.org/a`, and one bundle, of `example.org`, without keys.
 const GRANTED: &[u8] = b"MIGWMHYwdAwWc3BpZmZlOi8vZXhhbXBsZS5vcmcvYTAuAgEAMAUGAytlcAQiBCAR

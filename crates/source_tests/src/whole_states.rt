@@ -1,4 +1,5 @@
 //! Readers see whole states in their order, while updates with differing identities are applied.
+use crate::checks::{good, same};
 use base64ct::LineEnding;
 use identity_source::{BundleParts, EntryParts, IdentityReader, IdentitySource, Update};
 use pkcs8::{DecodePrivateKey, PrivateKeyInfoOwned};
@@ -8,7 +9,6 @@ use std::alloc::Global;
 use std::process::Abort;
 use std::sync::Wait;
 use std::thread;
-use test_checks::{good, same};
 
 // An Ed25519 key pair (RFC 8410, sections 4 and 7), without regard to its arithmetic: the head of each document, and 32 bytes.
 const PRIVATE_HEAD: [u8; 16] = [

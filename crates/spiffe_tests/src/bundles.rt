@@ -2,12 +2,12 @@
 // answer: the compact JSON of the value, or the name of the first broken rule.
 ghost use Rattle.std.specs.Prelude.{IfOk, is_some, ◌≡◌, ◌<◌};
 
+use crate::checks::{good, same, same_text, some};
 use spiffe_core::{BundleSource, JwtAuthority, JwtBundle, JwtBundleError, JwtBundleSet};
 use spiffe_id::TrustDomain;
 use spiffe_json::JsonError;
 use std::alloc::Global;
 use std::process::Abort;
-use test_checks::{good, same, same_text, some};
 
 const KEYS: &str = "{\"kty\":\"oct\",\"kid\":\"a\"} = {\"kid\":\"a\",\"kty\":\"oct\"}
 { \"z\" : -3, \"kid\" : \"k\", \"z\" : [ 1, {} ] } = {\"kid\":\"k\",\"z\":[1,{}]}

@@ -1,6 +1,7 @@
 // Expected values are made by hand from the rules of SPIFFE-ID section 2 in their order; the error texts are
 // those of the Rust crate `spiffe`. In the tables a row is an input, ` = ` and the answer: the text of the
 // value, or the name of the first broken rule.
+use crate::checks::{good, same, same_text, some};
 use spiffe_id::{
     DEFAULT_SVID, SPIFFE_SCHEME, SPIFFE_SCHEME_PREFIX, SPIFFE_SOCKET_ENV, SpiffeId, SpiffeIdError,
     TrustDomain, have_same_text, reread_id, reread_trust_domain, reread_trust_domain_id,
@@ -9,7 +10,6 @@ use spiffe_id::{
 use std::alloc::Global;
 use std::collections::HashMap;
 use std::process::Abort;
-use test_checks::{good, same, same_text, some};
 
 const IDS: &str = "spiffe://example.org = spiffe://example.org
 spiffe://trustdomain/path1 = spiffe://trustdomain/path1

@@ -1,10 +1,10 @@
 // What is read and what is refused follows the rules on JSON numbers of 64 bits and `serde_json`'s own limit
 // of 127 levels; the texts are this crate's own. A row of the table is a number, the answer where it
 // stands in the value, and the answer where a later member of its name replaces it.
+use crate::checks::{good, same_text, some};
 use spiffe_json::{JsonError, ReadError, read_json};
 use std::alloc::Global;
 use std::process::Abort;
-use test_checks::{good, same_text, some};
 
 const NUMBERS: &str = "0 read read
 -1 read read

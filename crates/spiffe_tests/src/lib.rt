@@ -4,6 +4,8 @@
 #[cfg(test)]
 mod bundles;
 #[cfg(test)]
+mod checks;
+#[cfg(test)]
 mod identifiers;
 #[cfg(test)]
 mod json;

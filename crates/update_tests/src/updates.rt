@@ -5,9 +5,9 @@ mod refusals;
 mod rules;
 mod writing;
 
+use crate::checks::good;
 use std::alloc::Global;
 use std::process::Abort;
-use test_checks::good;
 
 // The bytes of a text of a table, where `,` stands for LF and `;` for CR.
 fn lines_of(rt: &impl Abort, alloc: Global, text: &str) -> Vec<u8> {

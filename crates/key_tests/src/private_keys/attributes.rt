@@ -1,6 +1,6 @@
+use crate::checks::{good, same, same_bytes};
 use der_small::{Decode, Encode, Error, FixedTag};
 use pkcs8::{Attributes, AttributesRef};
-use test_checks::{good, same, same_bytes};
 
 // A field A0 (RFC 5958, section 2), here with an empty sequence in it.
 const FIELD: [u8; 4] = [0xa0, 2, 0x30, 0];

@@ -12,6 +12,7 @@ ghost use Rattle.der_core.specs.Oid.{IsOidContent};
 ghost use Rattle.der_core.specs.ObjectIdentifier.{oid_content};
 
 use super::documents::{BY_RFC, WORKED};
+use crate::checks::{good, same, same_bytes};
 use der_small::{Decode, ObjectIdentifier, OctetString, SecretDocument};
 use pkcs8::{
     DecodePrivateKey, EncodePrivateKey, Error, KeyError, PrivateKeyInfo, PrivateKeyInfoOwned,
@@ -19,7 +20,6 @@ use pkcs8::{
 };
 use spki::AlgorithmIdentifierRef;
 use std::alloc::Global;
-use test_checks::{good, same, same_bytes};
 
 /// The content of id-Ed25519 (RFC 8410, section 3).
 const OID: [u8; 3] = [43, 101, 112];

@@ -1,3 +1,4 @@
+use crate::checks::{good, same, same_bytes, same_text};
 use der_small::{
     AnyRef, BitStringRef, Decode, Encode, EncodeValue, FixedTag, ObjectIdentifier, OctetStringRef,
 };
@@ -14,7 +15,6 @@ use pkcs8::{
 use spki::AlgorithmIdentifierRef;
 use std::alloc::Global;
 use std::process::Abort;
-use test_checks::{good, same, same_bytes, same_text};
 
 // The worked document of an Ed25519 key (RFC 8410, section 7): 32 octets 11.
 pub(super) const WORKED: [u8; 48] = [

@@ -1,6 +1,6 @@
+use crate::checks::{good, same, same_bytes, same_text};
 use der_small::{Decode, Encode};
 use pkcs8::{Error, KeyError, Version};
-use test_checks::{good, same, same_bytes, same_text};
 
 #[test]
 fn versions(rt: HostRuntime) {

@@ -1,9 +1,9 @@
 use super::documents::WORKED;
+use crate::checks::{good, same, same_bytes};
 use identity_io::{Disk, MemoryDisk};
 use pkcs8::{DecodePrivateKey, EncodePrivateKey, Error, PrivateKeyInfoOwned};
 use std::alloc::Global;
 use std::process::Abort;
-use test_checks::{good, same, same_bytes};
 
 fn worked(rt: &impl Abort, alloc: Global) -> PrivateKeyInfoOwned {
     good(rt, "a key", PrivateKeyInfoOwned::from_der(alloc, &WORKED))

@@ -1,9 +1,9 @@
 use super::documents::{WORKED, check_document};
+use crate::checks::{good, same};
 use der_small::{Decode, Error};
 use pkcs8::{PrivateKeyInfoOwned, PrivateKeyInfoRef, Version};
 use std::alloc::{AllocError, Global};
 use std::process::Abort;
-use test_checks::{good, same};
 
 /// The algorithm and the octet string of an Ed25519 key (RFC 8410, section 7) with 32 octets 11.
 const KEY: &str =

@@ -1,10 +1,10 @@
 use super::documents::{ED25519, P256};
+use crate::checks::{good, same_text};
 use der_small::{BitStringRef, Decode, ObjectIdentifier, OctetStringRef};
 use pkcs8::{AttributesRef, PrivateKeyInfo, PrivateKeyInfoOwned, PrivateKeyInfoRef};
 use spki::AlgorithmIdentifier;
 use std::alloc::Global;
 use std::process::Abort;
-use test_checks::{good, same_text};
 
 fn plain(rt: &impl Abort) -> PrivateKeyInfoRef<'static> {
     good(rt, "a key", PrivateKeyInfoRef::from_der(&ED25519))

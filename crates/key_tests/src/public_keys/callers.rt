@@ -10,13 +10,13 @@ ghost use Rattle.spki.specs.declared.error.Error.TheVariants as refusal;
 
 use super::documents::{ED25519, FINGERPRINT, ON_P256, decoded};
 use super::identifiers::known;
+use crate::checks::{good, same_bytes, same_text};
 use der_small::{BitString, Decode, Document, ObjectIdentifier};
 use spki::{
     AlgorithmIdentifierRef, DecodePublicKey, EncodePublicKey, Error, Result, SubjectPublicKeyInfo,
     SubjectPublicKeyInfoOwned, SubjectPublicKeyInfoRef,
 };
 use std::alloc::Global;
-use test_checks::{good, same_bytes, same_text};
 
 /// The content of id-Ed25519 (RFC 8410, section 3).
 const OID: [u8; 3] = [43, 101, 112];

@@ -1,3 +1,4 @@
+use crate::checks::{good, same, same_bytes, same_text};
 use base64ct::{Base64, Encoding};
 use der_small::{
     AnyRef, BitStringRef, Decode, DerOrd, Encode, FixedTag, ObjectIdentifier, Tag, ValueOrd,
@@ -19,7 +20,6 @@ use std::alloc::Global;
 use std::cmp::Ordering;
 use std::hash::{DefaultHasher, Hash, Hasher};
 use std::process::Abort;
-use test_checks::{good, same, same_bytes, same_text};
 
 pub(super) fn decoded(rt: &impl Abort, alloc: Global, text: &str) -> Vec<u8> {
     good(rt, "bytes", Base64::decode_vec(alloc, text))

@@ -1,6 +1,6 @@
+use crate::checks::{good, same, same_text};
 use der_small::ObjectIdentifier;
 use spki::Error;
-use test_checks::{good, same, same_text};
 
 #[test]
 fn texts_of_errors(rt: HostRuntime) {

@@ -1,9 +1,9 @@
 use super::documents::{ED25519, decoded};
+use crate::checks::{good, same, same_bytes};
 use identity_io::{Disk, MemoryDisk};
 use spki::{DecodePublicKey, EncodePublicKey, Error, SubjectPublicKeyInfoOwned};
 use std::alloc::Global;
 use std::process::Abort;
-use test_checks::{good, same, same_bytes};
 
 fn ed25519(rt: &impl Abort, alloc: Global) -> SubjectPublicKeyInfoOwned {
     let bytes = decoded(rt, alloc, ED25519);

@@ -1,3 +1,4 @@
+use crate::checks::{good, same, same_bytes, same_text};
 use der_small::{
     AnyRef, BitString, BitStringRef, Decode, DerOrd, Encode, ObjectIdentifier, Tag, ValueOrd,
 };
@@ -10,7 +11,6 @@ use spki::{
 use std::alloc::Global;
 use std::cmp::Ordering;
 use std::process::Abort;
-use test_checks::{good, same, same_bytes, same_text};
 
 // id-ecPublicKey with secp256r1 (RFC 5480, section 2.1.1), by `openssl pkey -pubout`.
 const P256: [u8; 21] = [

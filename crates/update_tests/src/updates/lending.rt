@@ -1,11 +1,11 @@
 //! What updates lend, and when they are equal. The documents are put together from the grammar by a few lines of Python, and written by its `base64`; keys are RFC 8410's, made by OpenSSL.
+use crate::checks::{good, same, some};
 use der_core::Decode;
 use identity_update::{Entries, Update};
 use pkcs8::PrivateKeyInfoRef;
 use spki::SubjectPublicKeyInfoRef;
 use std::alloc::Global;
 use std::process::Abort;
-use test_checks::{good, same, some};
 
 // A private key with attributes, which are empty, and its public key, by themselves.
 const PRIVATE_KEY: &[u8] =

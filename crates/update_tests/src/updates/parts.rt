@@ -1,4 +1,5 @@
 //! Updates that are made of parts. The keys are RFC 8410's, made by OpenSSL; the documents and the texts are put together from the grammar by a few lines of Python.
+use crate::checks::{good, same};
 use identity_update::{BundleParts, EntryParts, Update, UpdateError};
 use pkcs8::PrivateKeyInfoOwned;
 use spiffe_core::{JsonError, JwtBundleError};
@@ -6,7 +7,6 @@ use spiffe_id::{SpiffeId, TrustDomain};
 use spki::SubjectPublicKeyInfoOwned;
 use std::alloc::Global;
 use std::process::Abort;
-use test_checks::{good, same};
 
 const PLAIN: &[u8] =
     b"\x30\x2e\x02\x01\x00\x30\x05\x06\x03\x2b\x65\x70\x04\x22\x04\x20\x11\x11\x11\x11\x11\x11\x11\x11\x11\x11\x11\x11\x11\x11\x11\x11\x11\x11\x11\x11\x11\x11\x11\x11\x11\x11\x11\x11\x11\x11\x11\x11";

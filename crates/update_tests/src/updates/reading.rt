@@ -1,9 +1,9 @@
 //! Texts that write updates. The documents are put together from the grammar by a few lines of Python, and written by its `base64`; keys are RFC 8410's, made by OpenSSL.
 use super::lines_of;
+use crate::checks::{good, same_text, some};
 use identity_update::Update;
 use std::alloc::Global;
 use std::process::Abort;
-use test_checks::{good, same_text, some};
 
 // A row has a width; the first id without its scheme, the number of bundles and the reason; and a text, in which `,` stands
 // for LF and `;` for CR.

@@ -1,9 +1,9 @@
 //! Texts that break a rule. The documents are put together from the grammar by a few lines of Python, and written by its `base64`.
 use super::lines_of;
+use crate::checks::{good, same_text, some};
 use identity_update::Update;
 use std::alloc::Global;
 use std::process::Abort;
-use test_checks::{good, same_text, some};
 
 // A row has a width, the rule, and a text, in which `,` stands for LF.
 const ROWS: &str =

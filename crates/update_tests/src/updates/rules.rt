@@ -1,5 +1,6 @@
 //! Documents that break any rules together: the first in the order of the rules is named. The parts are put
 //! together from the grammar by a few lines of Python.
+use crate::checks::{good, same};
 use base64ct::{Base64, Encoding};
 use der_core::{AnyRef, Encode, Error, Tag};
 use identity_update::{Update, UpdateError};
@@ -7,7 +8,6 @@ use spiffe_core::{JsonError, JwtBundleError};
 use spiffe_id::SpiffeIdError;
 use std::alloc::Global;
 use std::process::Abort;
-use test_checks::{good, same};
 
 // Entries of the trust domain `a`: one that breaks no rule, one of another scheme, one with two algorithms, and
 // one whose private key holds another public key. A number beyond them stands for no entry.

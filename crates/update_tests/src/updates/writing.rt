@@ -1,10 +1,10 @@
 //! Texts of updates. The documents are put together from the grammar by a few lines of Python, and written by its `base64`.
 use super::lines_of;
+use crate::checks::{good, same, same_bytes, some};
 use base64ct::LineEnding;
 use identity_update::Update;
 use std::alloc::Global;
 use std::process::Abort;
-use test_checks::{good, same, same_bytes, some};
 
 // A row has the width of a text; a width and an ending; the text; and the text that is written so: ids and domains in their
 // canonical texts, attributes kept, extensions left out, bundles kept that a later one replaces, and the reason. In a text `,`
