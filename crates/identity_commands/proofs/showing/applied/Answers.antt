@@ -1,8 +1,12 @@
-use Rattle.std.proofs.Common.{◌≡◌, ◌∙◌, sym}
+use Rattle.std.proofs.Common.{rules, ◌≡◌, ◌∙◌, sym}
 use Rattle.identity_source.specs.NamedList.{appended}
 use Rattle.identity_source.specs.State.{PlainState}
 use Rattle.identity_commands.proofs.Applied.{chosen_is, is_reported, receipt_ends, seen_is}
 use Rattle.identity_commands.proofs.showing.applied.Goals as goal
+
+-- src/showing.rt:57:23
+pub returns-in-Err : goal.returns-in-Err
+returns-in-Err g c = rw (sym c.deref.ensures.value) (search rules)
 
 -- src/showing.rt:42:1
 pub returns : goal.returns
