@@ -24,6 +24,3 @@ pub use refusal::{id_text, json_text, refusal_text};
 pub use report_lines::{push_bundle_words, report_text};
 pub use showing::{chosen, show};
 pub use status::Status;
-
-#[cfg(test)]
-mod tests;

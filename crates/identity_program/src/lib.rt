@@ -15,6 +15,3 @@ mod words;
 pub use commands::run;
 pub use program::{run_program, words_of};
 pub use words::{Command, read_words, unread};
-
-#[cfg(test)]
-mod tests;

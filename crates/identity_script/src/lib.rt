@@ -25,6 +25,3 @@ pub use reading::{MOST_REQUESTS, next_request};
 pub use reply::{accepted_text, bundle_text, svid_text};
 pub use request::{Ending, Next, Request};
 pub use serving::session;
-
-#[cfg(test)]
-mod tests;

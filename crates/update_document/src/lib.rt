@@ -19,6 +19,3 @@ pub use document::{DocumentFields, read_document};
 pub use fields::{BundleFields, EntryFields};
 pub use update::{BundleRef, EntryRef, UpdateFields, read_update};
 pub use written_document::WrittenDocument;
-
-#[cfg(test)]
-mod tests;

@@ -1,7 +1,9 @@
-//! Tests of `identity_update`, over its public items alone.
+//! Tests of `update_document` and of `identity_update`, over their public items alone.
 #![tactic(auto)]
 
 #[cfg(test)]
 mod checks;
+#[cfg(test)]
+mod documents;
 #[cfg(test)]
 mod updates;

@@ -1,10 +1,11 @@
 // The text is by a script outside this repository, from the grammar of `docs/FORMATS.md` alone; the fingerprint is by `openssl`.
-use crate::answers::report;
-use crate::refusal::refusal_text;
-use crate::status::Status;
+use crate::checks::{good, same, same_bytes, same_text};
+use identity_commands::{Status, refusal_text, report};
 use identity_io::{MemorySink, MemorySource};
 use identity_source::UpdateError;
 use spiffe_core::{JsonError, JwtBundleError, SpiffeIdError};
+use std::alloc::Global;
+use std::process::Abort;
 
 // One identity and one bundle: the sample of the README.
 const SAMPLE: &str =
@@ -20,8 +21,15 @@ fn report_without_a_source(rt: HostRuntime) {
     let mut input = MemorySource::new(SAMPLE.as_bytes(), &[], 7);
     let mut out = MemorySink::new(&mut room, &[], 5);
     let status = report(rt.alloc(), 64, &mut input, &mut out);
-    assert_eq!(rt; status, Status::Done);
-    assert_eq!(rt; out.written(), REPORT.as_bytes());
+    same(&rt, "status", &status, &Status::Done);
+    same_bytes(&rt, "report", out.written(), REPORT.as_bytes());
+}
+
+// That the line of the refusal is this one.
+fn refused(rt: &impl Abort, alloc: Global, error: UpdateError, line: &str) {
+    let found = good(rt, "memory", refusal_text(alloc, &error));
+    let wanted = good(rt, "memory", format!(in alloc; "refused: {line}\n"));
+    same_text(rt, "refusal", &found, &wanted);
 }
 
 // The lines that no text above shows, by the table in `docs/FORMATS.md`.
@@ -53,9 +61,7 @@ fn refusals(rt: HostRuntime) {
             "entry 0: no bundle",
         ),
     ] {
-        let found = refusal_text(rt.alloc(), &error).expect(&rt, "a line");
-        let wanted = format!(in rt.alloc(); "refused: {line}\n").expect(&rt, "memory");
-        assert_eq!(rt; found.as_str(), wanted.as_str());
+        refused(&rt, rt.alloc(), error, line);
     }
 }
 
@@ -78,10 +84,17 @@ fn causes_of_names(rt: HostRuntime) {
             "trust domain too long",
         ),
     ] {
-        let error = UpdateError::Subject { entry: 7, cause };
-        let found = refusal_text(rt.alloc(), &error).expect(&rt, "a line");
-        let wanted = format!(in rt.alloc(); "refused: entry 7: subject: {text}\n");
-        assert_eq!(rt; found.as_str(), wanted.expect(&rt, "memory").as_str());
+        let line = good(
+            &rt,
+            "memory",
+            format!(in rt.alloc(); "entry 7: subject: {text}"),
+        );
+        refused(
+            &rt,
+            rt.alloc(),
+            UpdateError::Subject { entry: 7, cause },
+            &line,
+        );
     }
 }
 
@@ -93,9 +106,16 @@ fn causes_of_key_sets(rt: HostRuntime) {
         (JsonError::Keys, "no keys array"),
     ] {
         let cause = JwtBundleError::Deserialize(cause);
-        let error = UpdateError::Authorities { bundle: 0, cause };
-        let found = refusal_text(rt.alloc(), &error).expect(&rt, "a line");
-        let wanted = format!(in rt.alloc(); "refused: bundle 0: authorities: {text}\n");
-        assert_eq!(rt; found.as_str(), wanted.expect(&rt, "memory").as_str());
+        let line = good(
+            &rt,
+            "memory",
+            format!(in rt.alloc(); "bundle 0: authorities: {text}"),
+        );
+        refused(
+            &rt,
+            rt.alloc(),
+            UpdateError::Authorities { bundle: 0, cause },
+            &line,
+        );
     }
 }

@@ -2,10 +2,10 @@
 // tag, length and content, then Base64 in lines. The fingerprint is
 // `openssl pkey -pubin -inform DER -outform DER | openssl dgst -sha256 -binary | openssl base64` of the public
 // key document in them.
-use crate::commands::run;
-use crate::words::unread;
+use crate::checks::{good, same};
 use identity_commands::Status;
 use identity_io::{LIMIT, MemorySink, MemorySource};
+use identity_program::{run, unread};
 use std::alloc::Global;
 use std::io::ErrorKind;
 use std::process::Abort;
@@ -51,8 +51,8 @@ fn run_in<R: Abort + Threads + Wait + Sync>(
 ) -> (Status, usize) {
     let mut owned = Vec::new(alloc);
     for word in words {
-        let word = String::from_str(alloc, word).expect(rt, "memory");
-        owned.push(word).expect(rt, "memory");
+        let word = good(rt, "memory", String::from_str(alloc, word));
+        good(rt, "memory", owned.push(word));
     }
     let mut input = MemorySource::new(text.as_bytes(), faults.0, 7);
     let mut out = MemorySink::new(room, faults.1, 5);
@@ -60,57 +60,81 @@ fn run_in<R: Abort + Threads + Wait + Sync>(
     (status, out.written().len())
 }
 
+// That a run over this input ends with this status and has written these bytes.
+fn answered<R: Abort + Threads + Wait + Sync>(
+    rt: &R,
+    alloc: Global,
+    words: &[&str],
+    text: &str,
+    status: Status,
+    printed: &str,
+) {
+    let mut room = [0u8; 400];
+    let outcome = run_in(rt, alloc, words, text, (&[], &[]), &mut room);
+    assert_eq!(rt; outcome, (status, printed.len()), "{words:?}, {text}");
+    assert!(rt; room.starts_with(printed.as_bytes()), "{words:?}, {text}");
+}
+
 #[test]
 fn reports(rt: HostRuntime) {
-    for (width, text, printed) in [
-        ("64", SAMPLE, REPORT),
-        ("2000", SEVERAL, SEVERAL_REPORT),
+    for (width, text, status, printed) in [
+        ("64", SAMPLE, Status::Done, REPORT),
+        ("2000", SEVERAL, Status::Done, SEVERAL_REPORT),
         (
             "64",
             WITHDRAWN,
+            Status::Done,
             "revision 1\nwithdrawn gone\nbundle example.org 0\n",
         ),
         (
             "64",
             MOVED,
+            Status::Done,
             "revision 1\nwithdrawn moved:%2050%25%20%C3%BC%0A\n",
         ),
-        ("63", SAMPLE, "refused: text: invalid Base64 encoding\n"),
-        ("64", "", "refused: text: invalid Base64 length\n"),
-        ("3", SAMPLE, "refused: text: invalid Base64 length\n"),
-        ("64", "MAYwADAAgAA=", "refused: document: malformed\n"),
+        (
+            "63",
+            SAMPLE,
+            Status::Refused,
+            "refused: text: invalid Base64 encoding\n",
+        ),
+        (
+            "64",
+            "",
+            Status::Refused,
+            "refused: text: invalid Base64 length\n",
+        ),
+        (
+            "3",
+            SAMPLE,
+            Status::Refused,
+            "refused: text: invalid Base64 length\n",
+        ),
+        (
+            "64",
+            "MAYwADAAgAA=",
+            Status::Refused,
+            "refused: document: malformed\n",
+        ),
         (
             "64",
             "MAQwADAAAA==",
+            Status::Refused,
             "refused: document: trailing data: decoded 6, remaining 1\n",
         ),
-        ("64", "MAQwADAA", "refused: document: no identity\n"),
+        (
+            "64",
+            "MAQwADAA",
+            Status::Refused,
+            "refused: document: no identity\n",
+        ),
     ] {
-        let mut room = [0u8; 400];
-        let outcome = run_in(
-            &rt,
-            rt.alloc(),
-            &["show", width],
-            text,
-            (&[], &[]),
-            &mut room,
-        );
-        let status = if printed.starts_with("refused") {
-            Status::Refused
-        } else {
-            Status::Done
-        };
-        assert_eq!(rt; outcome, (status, printed.len()), "width {width}, {text}");
-        assert!(rt;
-            room.starts_with(printed.as_bytes()),
-            "width {width}, {text}"
-        );
+        answered(&rt, rt.alloc(), &["show", width], text, status, printed);
     }
 }
 
 #[test]
 fn words(rt: HostRuntime) {
-    let mut room = [0u8; 200];
     let commands: [&[&str]; 23] = [
         &[],
         &["show"],
@@ -137,33 +161,36 @@ fn words(rt: HostRuntime) {
         &["watch", "64", "1", "1"],
     ];
     for words in commands {
-        let outcome = run_in(&rt, rt.alloc(), words, SAMPLE, (&[], &[]), &mut room);
-        assert_eq!(rt; outcome, (Status::Usage, 0));
+        answered(&rt, rt.alloc(), words, SAMPLE, Status::Usage, "");
     }
-    assert_eq!(rt; unread(ErrorKind::OutOfMemory), Status::OutOfMemory);
-    assert_eq!(rt; unread(ErrorKind::InvalidData), Status::Usage);
+    same(
+        &rt,
+        "words",
+        &unread(ErrorKind::OutOfMemory),
+        &Status::OutOfMemory,
+    );
+    same(
+        &rt,
+        "words",
+        &unread(ErrorKind::InvalidData),
+        &Status::Usage,
+    );
 }
 
 #[test]
 fn faults(rt: HostRuntime) {
-    let faults: [(&[u64], &[u64], Status, usize); 5] = [
-        (&[0], &[], Status::SourceFailed, 0),
-        (&[3], &[], Status::SourceFailed, 0),
-        (&[], &[0], Status::SinkFailed, 0),
-        (&[], &[2], Status::SinkFailed, 10),
-        (&[100], &[100], Status::Done, 121),
+    let faults: [(&[&str], &[u64], &[u64], Status, usize); 6] = [
+        (&["show", "64"], &[0], &[], Status::SourceFailed, 0),
+        (&["show", "64"], &[3], &[], Status::SourceFailed, 0),
+        (&["show", "64"], &[], &[0], Status::SinkFailed, 0),
+        (&["show", "64"], &[], &[2], Status::SinkFailed, 10),
+        (&["show", "64"], &[100], &[100], Status::Done, 121),
+        (&["make", "1"], &[0], &[2], Status::SinkFailed, 10),
     ];
-    for (reads, writes, status, written) in faults {
+    for (words, reads, writes, status, written) in faults {
         let mut room = [0u8; 200];
-        let outcome = run_in(
-            &rt,
-            rt.alloc(),
-            &["show", "64"],
-            SAMPLE,
-            (reads, writes),
-            &mut room,
-        );
-        assert_eq!(rt; outcome, (status, written));
+        let outcome = run_in(&rt, rt.alloc(), words, SAMPLE, (reads, writes), &mut room);
+        same(&rt, "outcome", &outcome, &(status, written));
     }
 }
 
@@ -173,68 +200,49 @@ fn size_of_a_text(rt: HostRuntime) {
         (LIMIT, Status::Refused, 39),
         (LIMIT + 1, Status::TooLong, 0),
     ] {
-        let text = "A".repeat(rt.alloc(), count).expect(&rt, "memory");
+        let text = good(&rt, "memory", "A".repeat(rt.alloc(), count));
         let mut room = [0u8; 100];
-        let outcome = run_in(
-            &rt,
-            rt.alloc(),
-            &["show", "64"],
-            text.as_str(),
-            (&[], &[]),
-            &mut room,
-        );
-        assert_eq!(rt; outcome, (status, written), "{count}");
+        let words = ["show", "64"];
+        let outcome = run_in(&rt, rt.alloc(), &words, &text, (&[], &[]), &mut room);
+        same(&rt, "outcome", &outcome, &(status, written));
     }
 }
 
 // What a session does is tested where it stands; here, that its words call it.
 #[test]
 fn serves(rt: HostRuntime) {
-    let mut room = [0u8; 100];
     for (script, status) in [
         ("svid\nend\n", Status::Done),
         ("svid\nhello\n", Status::BadScript),
         ("svid\n", Status::BadScript),
         ("svid\nupdate 16777217\n", Status::TooLong),
     ] {
-        let outcome = run_in(
+        answered(
             &rt,
             rt.alloc(),
             &["serve", "64"],
             script,
-            (&[], &[]),
-            &mut room,
+            status,
+            "svid 0 none\n",
         );
-        assert_eq!(rt; outcome, (status, 12));
-        assert!(rt; room.starts_with(b"svid 0 none\n"));
     }
 }
 
 // What `watch` does is tested where it stands; here, that its words call it.
 #[test]
 fn watches(rt: HostRuntime) {
-    let mut room = [0u8; 100];
     for (workers, script, status, printed) in [
         ("1", "svid\nend\n", Status::Done, "worker 0\nsvid 0 none\n"),
         ("2", "end\n", Status::Done, "worker 0\nworker 1\n"),
         ("8", "svid\nhello\n", Status::BadScript, ""),
     ] {
-        let outcome = run_in(
-            &rt,
-            rt.alloc(),
-            &["watch", "64", workers],
-            script,
-            (&[], &[]),
-            &mut room,
-        );
-        assert_eq!(rt; outcome, (status, printed.len()));
-        assert!(rt; room.starts_with(printed.as_bytes()));
+        let words = ["watch", "64", workers];
+        answered(&rt, rt.alloc(), &words, script, status, printed);
     }
 }
 
 #[test]
 fn makes(rt: HostRuntime) {
-    let mut room = [0u8; 100];
     for (n, printed) in [
         (
             "1",
@@ -249,10 +257,6 @@ fn makes(rt: HostRuntime) {
             "entries 10000\ndocument 1408942\ntext 1907944\nlast spiffe://example.org/w/9999\n",
         ),
     ] {
-        let outcome = run_in(&rt, rt.alloc(), &["make", n], "", (&[], &[]), &mut room);
-        assert_eq!(rt; outcome, (Status::Done, printed.len()), "{n}");
-        assert!(rt; room.starts_with(printed.as_bytes()), "{n}");
+        answered(&rt, rt.alloc(), &["make", n], "", Status::Done, printed);
     }
-    let faulty = run_in(&rt, rt.alloc(), &["make", "1"], "", (&[0], &[2]), &mut room);
-    assert_eq!(rt; faulty, (Status::SinkFailed, 10));
 }

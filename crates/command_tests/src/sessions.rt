@@ -1,7 +1,8 @@
 // Texts of updates are by a script outside this repository, from the grammar of `docs/FORMATS.md` alone.
-use crate::serving::session;
+use crate::checks::{good, same, some};
 use identity_commands::Status;
 use identity_io::{LIMIT, MemorySink, MemorySource};
+use identity_script::session;
 use std::alloc::Global;
 use std::process::Abort;
 use std::sync::Wait;
@@ -18,9 +19,13 @@ const REPLIES: &str =
 
 // Six requests and the end.
 fn six_requests(rt: &impl Abort, alloc: Global) -> String {
-    format!(in alloc;
-        "update 207\n{SAMPLE}\nupdate 0\n\nsvid\nbundle example.org\nupdate 207\n{SAMPLE}\nsvid\nend\nmore"
-    ).expect(rt, "memory")
+    good(
+        rt,
+        "memory",
+        format!(in alloc;
+            "update 207\n{SAMPLE}\nupdate 0\n\nsvid\nbundle example.org\nupdate 207\n{SAMPLE}\nsvid\nend\nmore"
+        ),
+    )
 }
 
 // The status of a session over memory in pieces, and how many bytes it wrote.
@@ -37,12 +42,24 @@ fn serve_in<R: Abort + Wait>(
     (status, out.written().len())
 }
 
+// That a session ends with this status and has written these replies.
+fn answered<R: Abort + Wait>(rt: &R, alloc: Global, script: &[u8], status: Status, replies: &str) {
+    let mut room = [0u8; 200];
+    let outcome = serve_in(rt, alloc, script, (&[], &[]), &mut room);
+    assert_eq!(rt; outcome, (status, replies.len()), "{script:?}");
+    assert!(rt; room.starts_with(replies.as_bytes()), "{script:?}");
+}
+
 #[test]
 fn scripts(rt: HostRuntime) {
     let six = six_requests(&rt, rt.alloc());
-    let withdrawn = format!(in rt.alloc();
-        "update 207\n{SAMPLE}\nupdate 56\n{WITHDRAWN}\nsvid\nbundle EXAMPLE.org\nend\n"
-    ).expect(&rt, "memory");
+    let withdrawn = good(
+        &rt,
+        "memory",
+        format!(in rt.alloc();
+            "update 207\n{SAMPLE}\nupdate 56\n{WITHDRAWN}\nsvid\nbundle EXAMPLE.org\nend\n"
+        ),
+    );
     for (script, status, replies) in [
         (six.as_bytes(), Status::Done, REPLIES),
         (
@@ -72,45 +89,43 @@ fn scripts(rt: HostRuntime) {
         (b"bundle a\xFF\nend\n", Status::BadScript, ""),
         (b"\xC3\x28\nend\n", Status::BadScript, ""),
     ] {
-        let mut room = [0u8; 200];
-        let outcome = serve_in(&rt, rt.alloc(), script, (&[], &[]), &mut room);
-        assert_eq!(rt; outcome, (status, replies.len()), "{script:?}");
-        assert!(rt; room.starts_with(replies.as_bytes()), "{script:?}");
+        answered(&rt, rt.alloc(), script, status, replies);
     }
 }
 
-// The replies to the whole requests in what came, wherever the input stops: where each request ends, and how much is
+// How much is written of the replies to the whole requests in so many bytes: where each request ends, and how much is
 // written by then.
-#[test]
-fn cuts(rt: HostRuntime) {
-    let six = six_requests(&rt, rt.alloc());
-    let ends = [
+fn written_by(count: usize) -> usize {
+    let mut written = 0;
+    for (end, so_far) in [
         (219, 11),
         (229, 48),
         (234, 78),
         (253, 101),
         (472, 112),
         (477, 142),
-    ];
+    ] {
+        if end <= count {
+            written = so_far;
+        }
+    }
+    written
+}
+
+// The replies to the whole requests in what came, wherever the input stops.
+#[test]
+fn cuts(rt: HostRuntime) {
+    let six = six_requests(&rt, rt.alloc());
     let mut cut = Vec::new(rt.alloc());
     for byte in six.as_bytes() {
-        let mut wanted = 0;
-        for (end, written) in ends {
-            if end <= cut.len() {
-                wanted = written;
-            }
-        }
         let status = if cut.len() < 481 {
             Status::BadScript
         } else {
             Status::Done
         };
-        let mut room = [0u8; 200];
-        let outcome = serve_in(&rt, rt.alloc(), &cut, (&[], &[]), &mut room);
-        assert_eq!(rt; outcome, (status, wanted));
-        let mut pairs = room.iter().zip(REPLIES.as_bytes()).take(wanted);
-        assert!(rt; pairs.all(|(found, reply)| found == reply));
-        cut.push(*byte).expect(&rt, "memory");
+        let replies = REPLIES.get(..written_by(cut.len()));
+        answered(&rt, rt.alloc(), &cut, status, some(&rt, "replies", replies));
+        good(&rt, "memory", cut.push(*byte));
     }
 }
 
@@ -128,53 +143,46 @@ fn faults(rt: HostRuntime) {
     for (reads, writes, status, written) in faults {
         let mut room = [0u8; 200];
         let outcome = serve_in(&rt, rt.alloc(), six.as_bytes(), (reads, writes), &mut room);
-        assert_eq!(rt; outcome, (status, written));
+        same(&rt, "outcome", &outcome, &(status, written));
     }
 }
 
 #[test]
 fn longest_lines(rt: HostRuntime) {
     for (count, status, written) in [(4_068, Status::Done, 29), (4_069, Status::BadScript, 0)] {
-        let path = "a".repeat(rt.alloc(), count).expect(&rt, "memory");
+        let path = good(&rt, "memory", "a".repeat(rt.alloc(), count));
         let script = format!(in rt.alloc(); "bundle spiffe://example.org/{path}\nend\n");
+        let script = good(&rt, "memory", script);
         let mut room = [0u8; 100];
-        let outcome = serve_in(
-            &rt,
-            rt.alloc(),
-            script.expect(&rt, "memory").as_bytes(),
-            (&[], &[]),
-            &mut room,
-        );
-        assert_eq!(rt; outcome, (status, written), "{count}");
+        let outcome = serve_in(&rt, rt.alloc(), script.as_bytes(), (&[], &[]), &mut room);
+        same(&rt, "outcome", &outcome, &(status, written));
     }
 }
 
 #[test]
 fn most_requests(rt: HostRuntime) {
     for (count, status) in [(10_000, Status::Done), (10_001, Status::TooLong)] {
-        let queries = "svid\n".repeat(rt.alloc(), count).expect(&rt, "memory");
-        let script = format!(in rt.alloc(); "{queries}end\n").expect(&rt, "memory");
-        let mut room = "-"
-            .repeat(rt.alloc(), 130_000)
-            .expect(&rt, "memory")
-            .into_bytes();
+        let queries = good(&rt, "memory", "svid\n".repeat(rt.alloc(), count));
+        let script = good(&rt, "memory", format!(in rt.alloc(); "{queries}end\n"));
+        let mut room = good(&rt, "memory", "-".repeat(rt.alloc(), 130_000)).into_bytes();
         let outcome = serve_in(&rt, rt.alloc(), script.as_bytes(), (&[], &[]), &mut room);
-        assert_eq!(rt; outcome, (status, 120_000), "{count}");
+        same(&rt, "outcome", &outcome, &(status, 120_000));
     }
 }
 
 #[test]
 fn longest_update(rt: HostRuntime) {
-    let text = "A".repeat(rt.alloc(), LIMIT).expect(&rt, "memory");
-    let mut script = Vec::new(rt.alloc());
-    for piece in ["update 16777216\n", text.as_str(), "\nend\n"] {
-        script
-            .extend_from_slice(piece.as_bytes())
-            .expect(&rt, "memory");
-    }
+    let text = good(&rt, "memory", "A".repeat(rt.alloc(), LIMIT));
+    let script = format!(in rt.alloc(); "update 16777216\n{text}\nend\n");
+    let script = good(&rt, "memory", script);
     let mut room = [0u8; 100];
-    let mut input = MemorySource::new(&script, &[], 65_536);
+    let mut input = MemorySource::new(script.as_bytes(), &[], 65_536);
     let mut out = MemorySink::new(&mut room, &[], 5);
     let status = session(&rt, rt.alloc(), 64, &mut input, &mut out);
-    assert_eq!(rt; (status, out.written().len()), (Status::Done, 39));
+    same(
+        &rt,
+        "outcome",
+        &(status, out.written().len()),
+        &(Status::Done, 39),
+    );
 }
