@@ -1,5 +1,6 @@
 // Documents are written by hand after the SPIFFE Trust Domain and Bundle format, section 4; the compact forms that are
 // wanted are python's `json.dumps(value, sort_keys=True, separators=(",", ":"))` of the keys for tokens.
+use crate::checks::{good, same, same_bytes, same_text};
 use bundle_document::{BundleDocument, BundleFeed, DocumentError, FeedError};
 use spiffe_core::{JsonError, JwtBundle, TrustDomain};
 use std::alloc::Global;
@@ -20,7 +21,11 @@ const SPIRE: &str = r#"{
 }"#;
 
 fn document<R: Abort>(rt: &R, alloc: Global, json: &str) -> BundleDocument {
-    BundleDocument::read(alloc, json.as_bytes()).expect(rt, "a document")
+    good(
+        rt,
+        "a document",
+        BundleDocument::read(alloc, json.as_bytes()),
+    )
 }
 
 #[test]
@@ -54,11 +59,11 @@ fn documents_are_read(rt: HostRuntime) {
         ),
     ] {
         let found = document(&rt, rt.alloc(), json);
-        assert_eq!(rt; found.sequence(), sequence);
-        assert_eq!(rt; found.refresh_hint(), refresh_hint);
-        assert_eq!(rt; found.x509_count(), x509_count);
-        assert_eq!(rt; found.ignored_count(), ignored_count);
-        assert!(rt; found.jwks() == jwks.as_bytes(), "{json}");
+        same(&rt, json, &found.sequence(), &sequence);
+        same(&rt, json, &found.refresh_hint(), &refresh_hint);
+        same(&rt, json, &found.x509_count(), &x509_count);
+        same(&rt, json, &found.ignored_count(), &ignored_count);
+        same_bytes(&rt, json, found.jwks(), jwks.as_bytes());
     }
 }
 
@@ -118,7 +123,7 @@ fn documents_are_refused(rt: HostRuntime) {
         ),
     ] {
         let found = BundleDocument::read(rt.alloc(), json.as_bytes()).err();
-        assert!(rt; found == Some(error), "{json}");
+        same(&rt, json, &found, &Some(error));
     }
 }
 
@@ -126,18 +131,25 @@ fn documents_are_refused(rt: HostRuntime) {
 #[test]
 fn large_documents(rt: HostRuntime) {
     let alloc = rt.alloc();
-    let mut json = String::from_str(alloc, r#"{"keys":["#).expect(&rt, "memory");
+    let mut json = good(&rt, "memory", String::from_str(alloc, r#"{"keys":["#));
     for i in 0..10_000 {
-        let key = format!(in alloc; r#"{{"kid":"k{i}","use":"jwt-svid"}},"#).expect(&rt, "memory");
-        json.push_str(key.as_str()).expect(&rt, "memory");
+        let key = good(
+            &rt,
+            "memory",
+            format!(in alloc; r#"{{"kid":"k{i}","use":"jwt-svid"}},"#),
+        );
+        good(&rt, "memory", json.push_str(key.as_str()));
     }
-    let deep = "[".repeat(alloc, 124).expect(&rt, "memory");
-    let back = "]".repeat(alloc, 124).expect(&rt, "memory");
+    let deep = good(&rt, "memory", "[".repeat(alloc, 124));
+    let back = good(&rt, "memory", "]".repeat(alloc, 124));
     let last = format!(in alloc; r#"{{"kid":"last","use":"jwt-svid","x":{deep}{back}}}]}}"#);
-    json.push_str(last.expect(&rt, "memory").as_str())
-        .expect(&rt, "memory");
+    good(
+        &rt,
+        "memory",
+        json.push_str(good(&rt, "memory", last).as_str()),
+    );
     let found = document(&rt, alloc, json.as_str());
-    assert!(rt; found.jwks() == json.as_bytes());
+    same_bytes(&rt, "key set", found.jwks(), json.as_bytes());
 }
 
 // A bundle with this key set, as a document and back.
@@ -145,17 +157,23 @@ fn large_documents(rt: HostRuntime) {
 fn bundles_are_written(rt: HostRuntime) {
     let alloc = rt.alloc();
     let read = document(&rt, alloc, SAMPLE);
-    let domain = TrustDomain::new(alloc, "example.org").expect(&rt, "a trust domain");
-    let parts = read.to_bundle_parts(alloc, &domain).expect(&rt, "memory");
+    let domain = good(
+        &rt,
+        "a trust domain",
+        TrustDomain::new(alloc, "example.org"),
+    );
+    let parts = good(&rt, "memory", read.to_bundle_parts(alloc, &domain));
     let bundle = JwtBundle::from_jwt_authorities(alloc, parts.trust_domain, &parts.jwks);
-    let bundle = bundle.expect(&rt, "a key set");
+    let bundle = good(&rt, "a key set", bundle);
     let made = BundleDocument::from_bundle(alloc, &bundle, Some(7), Some(300));
-    let made = made.expect(&rt, "memory");
-    assert!(rt; made.jwks() == read.jwks());
-    let json = made.to_json(alloc).expect(&rt, "memory");
-    assert!(rt;
-        json.as_slice()
-            == br#"{"keys":[{"kid":"a","kty":"EC","use":"jwt-svid"}],"spiffe_refresh_hint":300,"spiffe_sequence":7}"#.as_slice()
+    let made = good(&rt, "memory", made);
+    same_bytes(&rt, "key set", made.jwks(), read.jwks());
+    let json = good(&rt, "memory", made.to_json(alloc));
+    same_bytes(
+        &rt,
+        "document",
+        json.as_slice(),
+        br#"{"keys":[{"kid":"a","kty":"EC","use":"jwt-svid"}],"spiffe_refresh_hint":300,"spiffe_sequence":7}"#.as_slice(),
     );
 }
 
@@ -168,9 +186,11 @@ fn numbers_are_written(rt: HostRuntime) {
         r#"{"keys":[{"kid":"k","use":"jwt-svid"}],"spiffe_refresh_hint":18446744073709551615,"spiffe_sequence":2}"#,
     ] {
         let found = document(&rt, rt.alloc(), json).to_json(rt.alloc());
-        assert!(rt;
-            found.expect(&rt, "memory").as_slice() == json.as_bytes(),
-            "{json}"
+        same_bytes(
+            &rt,
+            json,
+            good(&rt, "memory", found).as_slice(),
+            json.as_bytes(),
         );
     }
 }
@@ -178,7 +198,7 @@ fn numbers_are_written(rt: HostRuntime) {
 #[test]
 fn feed_keeps_the_newest(rt: HostRuntime) {
     let mut feed = BundleFeed::new();
-    assert!(rt; feed.latest().is_none());
+    same(&rt, "feed", &feed.latest().is_none(), &true);
     for (sequence, answer, kept) in [
         (r#","spiffe_sequence":7"#, Ok(()), Some(7)),
         (
@@ -193,10 +213,19 @@ fn feed_keeps_the_newest(rt: HostRuntime) {
         ("", Ok(()), None),
         (r#","spiffe_sequence":1"#, Ok(()), Some(1)),
     ] {
-        let json = format!(in rt.alloc(); r#"{{"keys":[]{sequence}}}"#).expect(&rt, "memory");
+        let json = good(
+            &rt,
+            "memory",
+            format!(in rt.alloc(); r#"{{"keys":[]{sequence}}}"#),
+        );
         let found = feed.offer(document(&rt, rt.alloc(), json.as_str()));
-        assert!(rt; found == answer);
-        assert!(rt; feed.latest().and_then(BundleDocument::sequence) == kept);
+        same(&rt, "answer", &found, &answer);
+        same(
+            &rt,
+            "answer",
+            &feed.latest().and_then(BundleDocument::sequence),
+            &kept,
+        );
     }
 }
 
@@ -212,7 +241,7 @@ fn errors_are_told(rt: HostRuntime) {
         ),
         (DocumentError::OutOfMemory, "out of memory"),
     ] {
-        let found = format!(in rt.alloc(); "{error}").expect(&rt, "memory");
-        assert_eq!(rt; found.as_str(), text);
+        let found = good(&rt, "memory", format!(in rt.alloc(); "{error}"));
+        same_text(&rt, text, found.as_str(), text);
     }
 }

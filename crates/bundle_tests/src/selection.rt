@@ -1,4 +1,5 @@
 // The key set is as in the tests of documents.
+use crate::checks::{good, same};
 use bundle_selection::select;
 use identity_commands::Status;
 use identity_io::{LIMIT, MemorySink, MemorySource};
@@ -19,8 +20,8 @@ fn select_in<R: Abort>(
 ) -> (Status, usize) {
     let mut owned = Vec::new(alloc);
     for _ in 0..words {
-        let word = String::from_str(alloc, "keys").expect(rt, "memory");
-        owned.push(word).expect(rt, "memory");
+        let word = good(rt, "memory", String::from_str(alloc, "keys"));
+        good(rt, "memory", owned.push(word));
     }
     let mut input = MemorySource::new(json.as_bytes(), faults.0, 7);
     let mut out = MemorySink::new(room, faults.1, 5);
@@ -61,14 +62,14 @@ fn documents(rt: HostRuntime) {
     ] {
         let mut room = [0u8; 100];
         let outcome = select_in(&rt, rt.alloc(), 0, json, (&[], &[]), &mut room);
-        assert_eq!(rt; outcome, (status, printed.len()), "{json}");
-        assert!(rt; room.starts_with(printed.as_bytes()), "{json}");
+        same(&rt, json, &outcome, &(status, printed.len()));
+        same(&rt, json, &room.starts_with(printed.as_bytes()), &true);
     }
 }
 
 #[test]
 fn stops(rt: HostRuntime) {
-    let large = "[".repeat(rt.alloc(), LIMIT + 1).expect(&rt, "memory");
+    let large = good(&rt, "memory", "[".repeat(rt.alloc(), LIMIT + 1));
     let stops: [(usize, &str, &[u64], &[u64], Status, usize); 5] = [
         (1, SAMPLE, &[], &[], Status::Usage, 0),
         (0, SAMPLE, &[0], &[], Status::SourceFailed, 0),
@@ -79,6 +80,6 @@ fn stops(rt: HostRuntime) {
     for (words, json, reads, writes, status, written) in stops {
         let mut room = [0u8; 100];
         let outcome = select_in(&rt, rt.alloc(), words, json, (reads, writes), &mut room);
-        assert_eq!(rt; outcome, (status, written));
+        same(&rt, "outcome", &outcome, &(status, written));
     }
 }

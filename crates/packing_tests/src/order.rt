@@ -1,4 +1,5 @@
 // Which rule is named where several are broken: each row breaks the rule that is wanted and later ones.
+use crate::checks::{good, same};
 use crate::packing::{MANIFEST, NEVER};
 use crate::shelf::disk_with;
 use base64ct::LineEnding;
@@ -71,7 +72,7 @@ fn manifests(rt: HostRuntime) {
     ] {
         let mut disk = disk_with(&rt, rt.alloc(), manifest, NEVER);
         let packed = pack(rt.alloc(), &mut disk, path, width, LineEnding::LF);
-        assert!(rt; packed == Err(error), "{manifest}");
+        same(&rt, manifest, &packed, &Err(error));
     }
 }
 
@@ -146,7 +147,7 @@ fn files(rt: HostRuntime) {
     ] {
         let mut disk = disk_with(&rt, rt.alloc(), manifest, NEVER);
         let packed = pack(rt.alloc(), &mut disk, "m", 64, LineEnding::LF);
-        assert!(rt; packed == Err(error), "{manifest}");
+        same(&rt, manifest, &packed, &Err(error));
     }
 }
 
@@ -157,10 +158,10 @@ fn size_of_a_manifest(rt: HostRuntime) {
         (LIMIT, ManifestError::Syntax),
         (LIMIT + 1, ManifestError::TooLong),
     ] {
-        let manifest = "x".repeat(rt.alloc(), count).expect(&rt, "memory");
+        let manifest = good(&rt, "memory", "x".repeat(rt.alloc(), count));
         let mut disk = disk_with(&rt, rt.alloc(), manifest.as_str(), NEVER);
         let packed = pack(rt.alloc(), &mut disk, "m", 64, LineEnding::LF);
-        assert!(rt; packed == Err(PackError::Manifest(error)), "{count}");
+        same(&rt, "manifest", &packed, &Err(PackError::Manifest(error)));
     }
 }
 
@@ -168,12 +169,12 @@ fn size_of_a_manifest(rt: HostRuntime) {
 #[test]
 fn deep_manifests(rt: HostRuntime) {
     for (levels, error) in [(126, ManifestError::Shape), (127, ManifestError::Syntax)] {
-        let open = "[".repeat(rt.alloc(), levels).expect(&rt, "memory");
-        let close = "]".repeat(rt.alloc(), levels).expect(&rt, "memory");
+        let open = good(&rt, "memory", "[".repeat(rt.alloc(), levels));
+        let close = good(&rt, "memory", "]".repeat(rt.alloc(), levels));
         let manifest = format!(in rt.alloc(); r#"{{"entries":{open}{close},"bundles":[]}}"#);
-        let manifest = manifest.expect(&rt, "memory");
+        let manifest = good(&rt, "memory", manifest);
         let mut disk = disk_with(&rt, rt.alloc(), manifest.as_str(), NEVER);
         let packed = pack(rt.alloc(), &mut disk, "m", 64, LineEnding::LF);
-        assert!(rt; packed == Err(PackError::Manifest(error)), "{levels}");
+        same(&rt, "manifest", &packed, &Err(PackError::Manifest(error)));
     }
 }

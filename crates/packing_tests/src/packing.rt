@@ -1,3 +1,4 @@
+use crate::checks::{good, same, same_text};
 use crate::shelf::disk_with;
 use base64ct::LineEnding;
 use identity_packing::{FileError, ManifestError, PackError, pack};
@@ -35,7 +36,7 @@ fn packs(rt: HostRuntime) {
     ] {
         let mut disk = disk_with(&rt, rt.alloc(), manifest, NEVER);
         let packed = pack(rt.alloc(), &mut disk, "m", width, LineEnding::LF);
-        assert_eq!(rt; packed.expect(&rt, "a text").as_str(), text);
+        same_text(&rt, manifest, good(&rt, "a text", packed).as_str(), text);
     }
 }
 
@@ -85,7 +86,7 @@ fn refuses(rt: HostRuntime) {
     ] {
         let mut disk = disk_with(&rt, rt.alloc(), manifest, NEVER);
         let packed = pack(rt.alloc(), &mut disk, "m", 64, LineEnding::LF);
-        assert!(rt; packed == Err(error), "{manifest}");
+        same(&rt, manifest, &packed, &Err(error));
     }
 }
 
@@ -95,9 +96,6 @@ fn faults(rt: HostRuntime) {
     for (failing, is_fault) in [(7, true), (8, true), (9, true), (10, true), (11, false)] {
         let mut disk = disk_with(&rt, rt.alloc(), MANIFEST, failing);
         let packed = pack(rt.alloc(), &mut disk, "m", 64, LineEnding::LF);
-        assert!(rt;
-            (packed == Err(PackError::Fault)) == is_fault,
-            "call {failing}"
-        );
+        same(&rt, "fault", &(packed == Err(PackError::Fault)), &is_fault);
     }
 }

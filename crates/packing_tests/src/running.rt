@@ -1,4 +1,5 @@
 // The program over a disk and a sink in memory.
+use crate::checks::{good, same};
 use crate::packing::{MANIFEST, NEVER, OWN, OWN_TEXT, TEXT};
 use crate::shelf::disk_with;
 use identity_commands::Status;
@@ -18,8 +19,8 @@ fn run_in<R: Abort>(
 ) -> (Status, usize) {
     let mut owned = Vec::new(alloc);
     for word in words {
-        let word = String::from_str(alloc, word).expect(rt, "memory");
-        owned.push(word).expect(rt, "memory");
+        let word = good(rt, "memory", String::from_str(alloc, word));
+        good(rt, "memory", owned.push(word));
     }
     let mut out = MemorySink::new(room, writes, 50);
     let status = run(alloc, &owned, disk, &mut out);
@@ -110,8 +111,8 @@ fn prints(rt: HostRuntime) {
         } else {
             Status::Done
         };
-        assert_eq!(rt; outcome, (status, printed.len()), "{manifest}");
-        assert!(rt; room.starts_with(printed.as_bytes()), "{manifest}");
+        same(&rt, manifest, &outcome, &(status, printed.len()));
+        same(&rt, manifest, &room.starts_with(printed.as_bytes()), &true);
     }
 }
 
@@ -139,13 +140,12 @@ fn long_files(rt: HostRuntime) {
     ] {
         let mut room = [0u8; 100];
         let mut disk = disk_with(&rt, rt.alloc(), manifest, NEVER);
-        let long = " ".repeat(rt.alloc(), LIMIT + 1).expect(&rt, "memory");
-        disk.write_file("long", long.as_bytes())
-            .expect(&rt, "memory");
+        let long = good(&rt, "memory", " ".repeat(rt.alloc(), LIMIT + 1));
+        good(&rt, "memory", disk.write_file("long", long.as_bytes()));
         let words = ["pack", path, "64"];
         let outcome = run_in(&rt, rt.alloc(), &words, &mut disk, &[], &mut room);
-        assert_eq!(rt; outcome, (Status::Refused, printed.len()), "{printed}");
-        assert!(rt; room.starts_with(printed.as_bytes()), "{printed}");
+        same(&rt, printed, &outcome, &(Status::Refused, printed.len()));
+        same(&rt, printed, &room.starts_with(printed.as_bytes()), &true);
     }
 }
 
@@ -169,7 +169,7 @@ fn words(rt: HostRuntime) {
     for words in commands {
         let mut disk = disk_with(&rt, rt.alloc(), MANIFEST, NEVER);
         let outcome = run_in(&rt, rt.alloc(), words, &mut disk, &[], &mut room);
-        assert_eq!(rt; outcome, (Status::Usage, 0));
+        same(&rt, "outcome", &outcome, &(Status::Usage, 0));
     }
 }
 
@@ -192,7 +192,12 @@ fn faults(rt: HostRuntime) {
         let mut disk = disk_with(&rt, rt.alloc(), MANIFEST, reads);
         let words = ["pack", "m", "64"];
         let outcome = run_in(&rt, rt.alloc(), &words, &mut disk, writes, &mut room);
-        assert_eq!(rt; outcome, (status, written), "call {reads}");
-        assert!(rt; room.get(..written) == TEXT.as_bytes().get(..written));
+        same(&rt, "outcome", &outcome, &(status, written));
+        same(
+            &rt,
+            "text",
+            &room.get(..written),
+            &TEXT.as_bytes().get(..written),
+        );
     }
 }

@@ -1,4 +1,5 @@
 // A disk with the files of the tests.
+use crate::checks::good;
 use identity_io::{Disk, MemoryDisk};
 use std::alloc::Global;
 use std::process::Abort;
@@ -32,12 +33,11 @@ pub(crate) fn disk_with<R: Abort>(
     manifest: &str,
     failing: u64,
 ) -> MemoryDisk {
-    let stops = Vec::from_slice(alloc, &[failing]).expect(rt, "memory");
+    let stops = good(rt, "memory", Vec::from_slice(alloc, &[failing]));
     let mut disk = MemoryDisk::new(alloc, stops);
     for (path, bytes) in FILES {
-        disk.write_file(path, bytes).expect(rt, "memory");
+        good(rt, "memory", disk.write_file(path, bytes));
     }
-    disk.write_file("m", manifest.as_bytes())
-        .expect(rt, "memory");
+    good(rt, "memory", disk.write_file("m", manifest.as_bytes()));
     disk
 }

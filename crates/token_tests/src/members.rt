@@ -1,4 +1,5 @@
 // A row is a text, ` = ` and its members, each with the places of its value.
+use crate::checks::{good, same_text, some};
 use spiffe_id::SpiffeIdError;
 use spiffe_json::JsonError;
 use spiffe_token::{JwtSvidError, top_members};
@@ -34,15 +35,15 @@ const ROWS: &str = "{\"a\":1,\"\\u0061\":[2,3]} = a 5 6;a 16 21;
 
 fn members_or_none(rt: &impl Abort, alloc: Global, json: &[u8]) -> String {
     let mut text = String::new(alloc);
-    match top_members(alloc, json).expect(rt, "memory") {
+    match good(rt, "memory", top_members(alloc, json)) {
         Some(members) => {
             for m in &members {
                 let (start, end) = (m.start, m.end);
-                let shown = format!(in alloc; "{} {start} {end};", m.name).expect(rt, "memory");
-                text.push_str(shown.as_str()).expect(rt, "memory");
+                let shown = good(rt, "memory", format!(in alloc; "{} {start} {end};", m.name));
+                good(rt, "memory", text.push_str(shown.as_str()));
             }
         }
-        None => text.push_str("none").expect(rt, "memory"),
+        None => good(rt, "memory", text.push_str("none")),
     }
     text
 }
@@ -51,23 +52,27 @@ fn members_or_none(rt: &impl Abort, alloc: Global, json: &[u8]) -> String {
 fn members(rt: HostRuntime) {
     let alloc = rt.alloc();
     for row in ROWS.lines() {
-        let (json, wanted) = row.split_once(" = ").expect(&rt, "an answer");
+        let (json, wanted) = some(&rt, "an answer", row.split_once(" = "));
         let found = members_or_none(&rt, alloc, json.as_bytes());
-        assert_eq!(rt; found.as_str(), wanted, "{json}");
+        same_text(&rt, json, found.as_str(), wanted);
     }
     let found = members_or_none(&rt, alloc, b"{\"\xff\":1}");
-    assert_eq!(rt; found.as_str(), "none");
+    same_text(&rt, "answer", found.as_str(), "none");
 }
 
 // A value of a megabyte, and as many brackets.
 #[test]
 fn large_values(rt: HostRuntime) {
     let alloc = rt.alloc();
-    let open = "[".repeat(alloc, 500_000).expect(&rt, "memory");
-    let close = "]".repeat(alloc, 500_000).expect(&rt, "memory");
-    let text = format!(in alloc; "{{\"deep\":{open}{close}}}").expect(&rt, "memory");
+    let open = good(&rt, "memory", "[".repeat(alloc, 500_000));
+    let close = good(&rt, "memory", "]".repeat(alloc, 500_000));
+    let text = good(
+        &rt,
+        "memory",
+        format!(in alloc; "{{\"deep\":{open}{close}}}"),
+    );
     let found = members_or_none(&rt, alloc, text.as_bytes());
-    assert_eq!(rt; found.as_str(), "deep 8 1000008;");
+    same_text(&rt, "answer", found.as_str(), "deep 8 1000008;");
 }
 
 #[test]
@@ -104,7 +109,7 @@ fn error_texts(rt: HostRuntime) {
         ),
         (JwtSvidError::OutOfMemory, "out of memory"),
     ] {
-        let shown = format!(in rt.alloc(); "{error}").expect(&rt, "memory");
-        assert_eq!(rt; shown.as_str(), text);
+        let shown = good(&rt, "memory", format!(in rt.alloc(); "{error}"));
+        same_text(&rt, text, shown.as_str(), text);
     }
 }

@@ -1,5 +1,6 @@
 // A row of PARTS is a header, claims and the answer, a row of TOKENS a token and the answer: what the token says, or the name
 // of the first rule that it breaks.
+use crate::checks::{good, same, same_text, some};
 use spiffe_token::{JwtSvid, JwtSvidError};
 use std::alloc::Global;
 use std::process::Abort;
@@ -96,14 +97,18 @@ fn said(rt: &impl Abort, alloc: Global, answer: Result<JwtSvid, JwtSvidError>) -
         Ok(svid) => {
             let mut audience = String::new(alloc);
             for one in svid.audience() {
-                audience.push_str(one.as_str()).expect(rt, "memory");
-                audience.push_str(";").expect(rt, "memory");
+                good(rt, "memory", audience.push_str(one.as_str()));
+                good(rt, "memory", audience.push_str(";"));
             }
             let (key_id, id) = (svid.key_id(), svid.spiffe_id());
             let (expiry, alg) = (svid.expiry(), svid.alg());
-            format!(in alloc; "{key_id} {id} {audience} {expiry} {alg:?}").expect(rt, "memory")
+            good(
+                rt,
+                "memory",
+                format!(in alloc; "{key_id} {id} {audience} {expiry} {alg:?}"),
+            )
         }
-        Err(rule) => format!(in alloc; "{rule:?}").expect(rt, "memory"),
+        Err(rule) => good(rt, "memory", format!(in alloc; "{rule:?}")),
     }
 }
 
@@ -111,10 +116,10 @@ fn said(rt: &impl Abort, alloc: Global, answer: Result<JwtSvid, JwtSvidError>) -
 fn parts(rt: HostRuntime) {
     let alloc = rt.alloc();
     for row in PARTS.lines() {
-        let (header, rest) = row.split_once(" = ").expect(&rt, "claims");
-        let (claims, wanted) = rest.split_once(" = ").expect(&rt, "an answer");
+        let (header, rest) = some(&rt, "claims", row.split_once(" = "));
+        let (claims, wanted) = some(&rt, "an answer", rest.split_once(" = "));
         let answer = JwtSvid::from_parts(alloc, "", header.as_bytes(), claims.as_bytes());
-        assert_eq!(rt; said(&rt, alloc, answer).as_str(), wanted, "{row}");
+        same_text(&rt, row, said(&rt, alloc, answer).as_str(), wanted);
     }
 }
 
@@ -122,11 +127,11 @@ fn parts(rt: HostRuntime) {
 fn tokens(rt: HostRuntime) {
     let alloc = rt.alloc();
     for row in TOKENS.lines() {
-        let (token, wanted) = row.split_once(" = ").expect(&rt, "an answer");
+        let (token, wanted) = some(&rt, "an answer", row.split_once(" = "));
         let answer = JwtSvid::parse_insecure(alloc, token);
-        assert_eq!(rt; said(&rt, alloc, answer).as_str(), wanted, "{token}");
+        same_text(&rt, token, said(&rt, alloc, answer).as_str(), wanted);
         let answer = JwtSvid::from_workload_api_token(alloc, token);
-        assert_eq!(rt; said(&rt, alloc, answer).as_str(), wanted, "{token}");
+        same_text(&rt, token, said(&rt, alloc, answer).as_str(), wanted);
     }
 }
 
@@ -135,27 +140,28 @@ fn tokens(rt: HostRuntime) {
 fn long_parts(rt: HostRuntime) {
     let alloc = rt.alloc();
     for (count, wanted) in [(87_380, "InvalidJson(Syntax)"), (87_382, "InvalidBase64")] {
-        let long = "A".repeat(alloc, count).expect(&rt, "memory");
-        let token = format!(in alloc; "{long}..").expect(&rt, "memory");
+        let long = good(&rt, "memory", "A".repeat(alloc, count));
+        let token = good(&rt, "memory", format!(in alloc; "{long}.."));
         let answer = JwtSvid::parse_insecure(alloc, token.as_str());
-        assert_eq!(rt; said(&rt, alloc, answer).as_str(), wanted);
+        same_text(&rt, "answer", said(&rt, alloc, answer).as_str(), wanted);
     }
 }
 
 #[test]
 fn audiences(rt: HostRuntime) {
     let alloc = rt.alloc();
-    for (more, is_read) in [(0, true), (31, true), (32, false)] {
-        let others = ",\"b\"".repeat(alloc, more).expect(&rt, "memory");
+    for (more, wanted) in [(0, Some(1)), (31, Some(32)), (32, None)] {
+        let others = good(&rt, "memory", ",\"b\"".repeat(alloc, more));
         let claims = format!(in alloc;
             "{{\"sub\":\"spiffe://a\",\"exp\":0,\"aud\":[\"a\"{others}]}}"
         );
-        let claims = claims.expect(&rt, "memory");
+        let claims = good(&rt, "memory", claims);
         let answer = JwtSvid::from_parts(alloc, "", HEADER.as_bytes(), claims.as_bytes());
-        match answer {
-            Ok(svid) => assert!(rt; is_read && svid.audience().len() == more + 1),
-            Err(_) => assert!(rt; !is_read),
-        }
+        let found = match answer {
+            Ok(svid) => Some(svid.audience().len()),
+            Err(_) => None,
+        };
+        same(&rt, "audiences", &found, &wanted);
     }
 }
 
@@ -165,59 +171,70 @@ fn algorithms(rt: HostRuntime) {
     for name in [
         "RS256", "RS384", "RS512", "ES256", "ES384", "ES512", "PS256", "PS384", "PS512",
     ] {
-        let header = format!(in alloc; "{{\"alg\":\"{name}\",\"kid\":\"\"}}").expect(&rt, "memory");
+        let header = good(
+            &rt,
+            "memory",
+            format!(in alloc; "{{\"alg\":\"{name}\",\"kid\":\"\"}}"),
+        );
         let svid = JwtSvid::from_parts(alloc, "", header.as_bytes(), CLAIMS.as_bytes());
-        let svid = svid.expect(&rt, "a token");
-        let shown = format!(in alloc; "{:?}", svid.alg()).expect(&rt, "memory");
-        assert_eq!(rt; shown.as_str(), name);
+        let svid = good(&rt, "a token", svid);
+        let shown = good(&rt, "memory", format!(in alloc; "{:?}", svid.alg()));
+        same_text(&rt, name, shown.as_str(), name);
     }
 }
 
 #[test]
 fn signed_by_openssl(rt: HostRuntime) {
     let alloc = rt.alloc();
-    let svid = JwtSvid::parse_insecure(alloc, SIGNED).expect(&rt, "a token");
-    assert_eq!(rt; svid.token(), SIGNED);
-    assert_eq!(rt; svid.claims().sub(), "spiffe://Domain.test/Web/api");
-    assert_eq!(rt; svid.claims().exp(), 1_893_456_000);
-    assert_eq!(rt; svid.claims().aud().len(), 2);
+    let svid = good(&rt, "a token", JwtSvid::parse_insecure(alloc, SIGNED));
+    same_text(&rt, "token", svid.token(), SIGNED);
+    same_text(
+        &rt,
+        "subject",
+        svid.claims().sub(),
+        "spiffe://Domain.test/Web/api",
+    );
+    same(&rt, "expiry", &svid.claims().exp(), &1_893_456_000);
+    same(&rt, "audience", &svid.claims().aud().len(), &2);
     let wanted =
         "authority-7 spiffe://domain.test/Web/api spiffe://peer.test/db;other; 1893456000 RS256";
-    assert_eq!(rt; said(&rt, alloc, Ok(svid)).as_str(), wanted);
+    same_text(&rt, "answer", said(&rt, alloc, Ok(svid)).as_str(), wanted);
 }
 
 fn plain(rt: &impl Abort, alloc: Global) -> JwtSvid {
-    JwtSvid::parse_insecure(alloc, TOKEN).expect(rt, "a token")
+    good(rt, "a token", JwtSvid::parse_insecure(alloc, TOKEN))
 }
 
 fn hinted(rt: &impl Abort, alloc: Global) -> JwtSvid {
-    let hint = String::from_str(alloc, "h").expect(rt, "memory");
+    let hint = good(rt, "memory", String::from_str(alloc, "h"));
     plain(rt, alloc).with_hint(hint)
 }
 
 #[test]
 fn clones(rt: HostRuntime) {
     let svid = hinted(&rt, rt.alloc());
-    let copy = svid.try_clone(rt.alloc()).expect(&rt, "memory");
-    assert!(rt; copy == svid);
-    assert!(rt; copy.hint() == Some("h"));
-    assert!(rt; copy != plain(&rt, rt.alloc()));
+    let copy = good(&rt, "memory", svid.try_clone(rt.alloc()));
+    same(&rt, "copy", &copy, &svid);
+    same(&rt, "hint", &copy.hint(), &Some("h"));
+    same(&rt, "another", &(copy == plain(&rt, rt.alloc())), &false);
 }
 
 #[test]
 fn clones_of_claims(rt: HostRuntime) {
     let svid = plain(&rt, rt.alloc());
-    let claims = svid.claims().try_clone(rt.alloc()).expect(&rt, "memory");
-    assert!(rt; claims == *svid.claims());
+    let claims = good(&rt, "memory", svid.claims().try_clone(rt.alloc()));
+    same(&rt, "claims", &claims, svid.claims());
 }
 
 // Of the token's text the length is shown.
 #[test]
 fn shown(rt: HostRuntime) {
     let svid = hinted(&rt, rt.alloc());
-    let shown = format!(in rt.alloc(); "{svid:?}").expect(&rt, "memory");
-    assert_eq!(rt;
+    let shown = good(&rt, "memory", format!(in rt.alloc(); "{svid:?}"));
+    same_text(
+        &rt,
+        "answer",
         shown.as_str(),
-        "JwtSvid { spiffe_id: spiffe://example.org/a, alg: ES256, expiry: 1700000000, audiences: 1, token: Token { len: 161 } }"
+        "JwtSvid { spiffe_id: spiffe://example.org/a, alg: ES256, expiry: 1700000000, audiences: 1, token: Token { len: 161 } }",
     );
 }

@@ -1,5 +1,6 @@
 // A row of `TIMES` is a text, ` = ` and its nanoseconds, which python's `fractions` computed from the grammar of JSON's
 // numbers. A row of `CLAIMS` has claims, the same without their times, and the time itself.
+use crate::checks::{good, same_bytes, same_text, some};
 use std::alloc::Global;
 use std::process::Abort;
 use token_time::{nanoseconds, not_before, quiet};
@@ -110,8 +111,8 @@ const CLAIMS: &str = "{\"nbf\":1.5,\"a\":2.5} = {\"nbf\":0,\"a\":2.5} = 15000000
 
 fn text_of(rt: &impl Abort, alloc: Global, time: Option<i128>) -> String {
     match time {
-        Some(time) => format!(in alloc; "{time}").expect(rt, "memory"),
-        None => String::from_str(alloc, "none").expect(rt, "memory"),
+        Some(time) => good(rt, "memory", format!(in alloc; "{time}")),
+        None => good(rt, "memory", String::from_str(alloc, "none")),
     }
 }
 
@@ -119,9 +120,9 @@ fn text_of(rt: &impl Abort, alloc: Global, time: Option<i128>) -> String {
 fn times(rt: HostRuntime) {
     let alloc = rt.alloc();
     for row in TIMES.lines() {
-        let (text, wanted) = row.split_once(" = ").expect(&rt, "an answer");
+        let (text, wanted) = some(&rt, "an answer", row.split_once(" = "));
         let found = text_of(&rt, alloc, nanoseconds(text.as_bytes()));
-        assert_eq!(rt; found.as_str(), wanted, "{text}");
+        same_text(&rt, text, found.as_str(), wanted);
     }
 }
 
@@ -129,14 +130,14 @@ fn times(rt: HostRuntime) {
 fn claims(rt: HostRuntime) {
     let alloc = rt.alloc();
     for row in CLAIMS.lines() {
-        let (claims, rest) = row.split_once(" = ").expect(&rt, "an answer");
-        let (wanted, time) = rest.split_once(" = ").expect(&rt, "a time");
-        let found = quiet(alloc, claims.as_bytes()).expect(&rt, "memory");
-        assert_eq!(rt; found.as_slice(), wanted.as_bytes(), "{claims}");
-        let found = match not_before(alloc, claims.as_bytes()).expect(&rt, "memory") {
+        let (claims, rest) = some(&rt, "an answer", row.split_once(" = "));
+        let (wanted, time) = some(&rt, "a time", rest.split_once(" = "));
+        let found = good(&rt, "memory", quiet(alloc, claims.as_bytes()));
+        same_bytes(&rt, claims, found.as_slice(), wanted.as_bytes());
+        let found = match good(&rt, "memory", not_before(alloc, claims.as_bytes())) {
             Some(time) => text_of(&rt, alloc, time),
-            None => String::from_str(alloc, "broken").expect(&rt, "memory"),
+            None => good(&rt, "memory", String::from_str(alloc, "broken")),
         };
-        assert_eq!(rt; found.as_str(), time, "{claims}");
+        same_text(&rt, claims, found.as_str(), time);
     }
 }

@@ -1,6 +1,7 @@
 // A case has the parts of a token, an authority and what is asked of both, each in a line. A row has the answer to the case
 // with these texts in place of others. The answers were worked out by hand from the rules in their order; `@` stands for 340
 // times `_`, and an empty signature for the digest that the backend for tests calls good.
+use crate::checks::{good, same_text, some};
 use base64_alphabets::Base64UrlUnpadded;
 use base64ct::Encoding;
 use identity_verify::{DigestBackend, VerifyError, parse_and_validate};
@@ -157,11 +158,11 @@ NonCanonicalRsaComponent(E) <= \"_@w\" => \"AQ\" ; \"AQAB\" => \"AAEAAQ\"
 InvalidAuthorityMetadata(Kty) <= \"RS256\" => \"ES256\"";
 
 fn changed(rt: &impl Abort, alloc: Global, case: &str, changes: &str) -> String {
-    let mut text = String::from_str(alloc, case).expect(rt, "memory");
+    let mut text = good(rt, "memory", String::from_str(alloc, case));
     for change in changes.split(" ; ") {
         if let Some((old, new)) = change.split_once(" => ") {
-            let (before, after) = text.as_str().split_once(old).expect(rt, "the old text");
-            text = format!(in alloc; "{before}{new}{after}").expect(rt, "memory");
+            let (before, after) = some(rt, "the old text", text.as_str().split_once(old));
+            text = good(rt, "memory", format!(in alloc; "{before}{new}{after}"));
         }
     }
     text
@@ -176,16 +177,15 @@ fn line_of<'c>(rt: &impl Abort, case: &'c str, name: &str) -> &'c str {
         }
     }
     let none: Option<&str> = None;
-    none.expect(rt, "a line of that name")
+    some(rt, "a line of that name", none)
 }
 
 fn set_of(rt: &impl Abort, alloc: Global, domain: &str, key: &str) -> JwtBundleSet {
-    let keys = format!(in alloc; "{{\"keys\":[{key}]}}").expect(rt, "memory");
-    let domain = TrustDomain::new(alloc, domain).expect(rt, "a trust domain");
+    let keys = good(rt, "memory", format!(in alloc; "{{\"keys\":[{key}]}}"));
+    let domain = good(rt, "a trust domain", TrustDomain::new(alloc, domain));
     let bundle = JwtBundle::from_jwt_authorities(alloc, domain, keys.as_bytes());
     let mut set = JwtBundleSet::new(alloc);
-    set.add_bundle(bundle.expect(rt, "keys"))
-        .expect(rt, "memory");
+    good(rt, "memory", set.add_bundle(good(rt, "keys", bundle)));
     set
 }
 
@@ -195,17 +195,17 @@ fn canonical(rt: &impl Abort, alloc: Global, key: &str) -> String {
         Ok(authority) => Vec::from_slice(alloc, authority.jwk_json()),
         Err(_) => Vec::from_slice(alloc, b""),
     };
-    String::from_utf8(bytes.expect(rt, "memory")).expect(rt, "text")
+    good(rt, "text", String::from_utf8(good(rt, "memory", bytes)))
 }
 
 fn encoded(rt: &impl Abort, alloc: Global, bytes: &[u8]) -> String {
-    Base64UrlUnpadded::encode_string(alloc, bytes).expect(rt, "memory")
+    good(rt, "memory", Base64UrlUnpadded::encode_string(alloc, bytes))
 }
 
 fn token_of(rt: &impl Abort, alloc: Global, case: &str, key: &str) -> String {
     let header = encoded(rt, alloc, line_of(rt, case, "header").as_bytes());
     let claims = encoded(rt, alloc, line_of(rt, case, "claims").as_bytes());
-    let message = format!(in alloc; "{header}.{claims}").expect(rt, "memory");
+    let message = good(rt, "memory", format!(in alloc; "{header}.{claims}"));
     let mut hasher = Sha256::new();
     hasher.update(canonical(rt, alloc, key).as_bytes());
     hasher.update(message.as_bytes());
@@ -220,7 +220,7 @@ fn token_of(rt: &impl Abort, alloc: Global, case: &str, key: &str) -> String {
         "~" => format!(in alloc; "~{message}.{signature}"),
         _ => format!(in alloc; "{message}.{signature}{end}"),
     };
-    token.expect(rt, "memory")
+    good(rt, "memory", token)
 }
 
 fn shown(
@@ -233,25 +233,23 @@ fn shown(
         Err(VerifyError::BundleNotFound(domain)) => format!(in alloc; "BundleNotFound {domain}"),
         Err(cause) => format!(in alloc; "{cause:?}"),
     };
-    text.expect(rt, "memory")
+    good(rt, "memory", text)
 }
 
 fn answer(rt: &impl Abort, alloc: Global, case: &str) -> String {
-    let middle = "_".repeat(alloc, 340).expect(rt, "memory");
+    let middle = good(rt, "memory", "_".repeat(alloc, 340));
     let key = match line_of(rt, case, "key").split_once("@") {
         Some((before, after)) => format!(in alloc; "{before}{middle}{after}"),
         None => String::from_str(alloc, line_of(rt, case, "key")),
     };
-    let key = key.expect(rt, "memory");
+    let key = good(rt, "memory", key);
     let bundles = set_of(rt, alloc, line_of(rt, case, "domain"), key.as_str());
     let token = token_of(rt, alloc, case, key.as_str());
-    let now = line_of(rt, case, "now")
-        .parse::<i128>()
-        .expect(rt, "a time");
+    let now = good(rt, "a time", line_of(rt, case, "now").parse::<i128>());
     let mut expected = Vec::new(alloc);
     for audience in line_of(rt, case, "want").split_whitespace() {
-        let audience = String::from_str(alloc, audience).expect(rt, "memory");
-        expected.push(audience).expect(rt, "memory");
+        let audience = good(rt, "memory", String::from_str(alloc, audience));
+        good(rt, "memory", expected.push(audience));
     }
     let answer = parse_and_validate(
         alloc,
@@ -266,9 +264,9 @@ fn answer(rt: &impl Abort, alloc: Global, case: &str) -> String {
 
 fn check_rows(rt: &impl Abort, alloc: Global, case: &str, rows: &str) {
     for row in rows.lines() {
-        let (wanted, changes) = row.split_once(" <= ").expect(rt, "an answer");
+        let (wanted, changes) = some(rt, "an answer", row.split_once(" <= "));
         let found = answer(rt, alloc, changed(rt, alloc, case, changes).as_str());
-        assert_eq!(rt; found.as_str(), wanted, "{row}");
+        same_text(rt, row, found.as_str(), wanted);
     }
 }
 
@@ -286,7 +284,7 @@ fn rsa_keys(rt: HostRuntime) {
 fn check_breaks(rt: &impl Abort, alloc: Global, case: &str, breaks: &str) {
     check_rows(rt, alloc, case, breaks);
     for (i, row) in breaks.lines().enumerate() {
-        let (_, changes) = row.split_once(" <= ").expect(rt, "an answer");
+        let (_, changes) = some(rt, "an answer", row.split_once(" <= "));
         let later = changed(rt, alloc, case, changes);
         for (j, row) in breaks.lines().enumerate() {
             if j < i {

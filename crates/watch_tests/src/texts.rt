@@ -1,4 +1,5 @@
 //! What is written for scripts, over memory in pieces. The texts of updates are by a script outside this repository, from the grammar of `docs/FORMATS.md` alone.
+use crate::checks::{good, same};
 use identity_commands::Status;
 use identity_io::{MemorySink, MemorySource};
 use identity_watch::{OpenGate, watch};
@@ -31,19 +32,29 @@ fn watch_in<R: Abort + Threads + Wait + Sync>(
     (status, out.written().len())
 }
 
+// That two workers end with this status and have written what begins so.
+fn begins<R: Abort + Threads + Wait + Sync>(
+    rt: &R,
+    alloc: Global,
+    script: &[u8],
+    status: Status,
+    written: &str,
+) -> usize {
+    let mut room = [0u8; 200];
+    let outcome = watch_in(rt, alloc, script, (&[], &[]), &mut room);
+    assert_eq!(rt; outcome.0, status, "{script:?}");
+    assert!(rt; room.starts_with(written.as_bytes()), "{script:?}");
+    outcome.1
+}
+
 #[test]
 fn scripts(rt: HostRuntime) {
-    let answered = format!(in rt.alloc(); "{GRANTED}svid\nbundle example.org\nend\nmore").expect(
-        &rt, "memory",
-    );
-    let later = format!(in rt.alloc(); "bundle EXAMPLE.org\nupdate 0\n\n{GRANTED}end\n").expect(
-        &rt, "memory",
-    );
-    let later_reply = "refused: text: invalid Base64 length\naccepted 1\nworker 0\nbundle ";
-    let lone = format!(in rt.alloc(); "svid\n{GRANTED}end\n").expect(&rt, "memory");
+    let alloc = rt.alloc();
+    let answered = format!(in alloc; "{GRANTED}svid\nbundle example.org\nend\nmore");
+    let answered = good(&rt, "memory", answered);
+    let lone = good(&rt, "memory", format!(in alloc; "svid\n{GRANTED}end\n"));
     let lone_reply =
         "accepted 1\nworker 0\nsvid 1 spiffe://example.org/a\nworker 1\nsvid 1 spiffe://example.org/a\n";
-    let mut room = [0u8; 200];
     for (script, status, written) in [
         (answered.as_bytes(), Status::Done, ANSWERS),
         (lone.as_bytes(), Status::Done, lone_reply),
@@ -66,19 +77,27 @@ fn scripts(rt: HostRuntime) {
         (b"update 1\na\nupdate 16777216\n", Status::TooLong, ""),
         (b"update 1\na\nupdate 16777215\n", Status::BadScript, ""),
     ] {
-        let outcome = watch_in(&rt, rt.alloc(), script, (&[], &[]), &mut room);
-        assert_eq!(rt; outcome, (status, written.len()), "{script:?}");
-        assert!(rt; room.starts_with(written.as_bytes()), "{script:?}");
+        let count = begins(&rt, alloc, script, status, written);
+        same(&rt, "bytes written", &count, &written.len());
     }
-    let outcome = watch_in(&rt, rt.alloc(), later.as_bytes(), (&[], &[]), &mut room);
-    assert_eq!(rt; outcome.0, Status::Done);
-    assert!(rt; room.starts_with(later_reply.as_bytes()));
+}
+
+// Each worker answers from the state after the first update that was accepted, or a later one.
+#[test]
+fn later_updates(rt: HostRuntime) {
+    let alloc = rt.alloc();
+    let script = format!(in alloc; "bundle EXAMPLE.org\nupdate 0\n\n{GRANTED}end\n");
+    let script = good(&rt, "memory", script);
+    let written = "refused: text: invalid Base64 length\naccepted 1\nworker 0\nbundle ";
+    begins(&rt, alloc, script.as_bytes(), Status::Done, written);
 }
 
 #[test]
 fn faults(rt: HostRuntime) {
-    let script = format!(in rt.alloc(); "{GRANTED}svid\nbundle example.org\nend\n").expect(
-        &rt, "memory",
+    let script = good(
+        &rt,
+        "memory",
+        format!(in rt.alloc(); "{GRANTED}svid\nbundle example.org\nend\n"),
     );
     let faults: [(&[u64], &[u64], Status, usize); 5] = [
         (&[0], &[], Status::SourceFailed, 0),
@@ -96,6 +115,6 @@ fn faults(rt: HostRuntime) {
             (reads, writes),
             &mut room,
         );
-        assert_eq!(rt; outcome, (status, written));
+        same(&rt, "outcome", &outcome, &(status, written));
     }
 }
