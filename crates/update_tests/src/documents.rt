@@ -1,5 +1,5 @@
 //! Documents of numbers in place of entries and bundles, put together by hand from X.690, and one update document, put together from the grammar by a few lines of Python over RFC 8410's keys.
-use crate::checks::{good, same, same_bytes, some};
+use crate::checks::{good, same, same_bytes};
 use der_core::{Encode, Error};
 use der_lists::SequenceOf;
 use der_small::Utf8Ref;
@@ -9,28 +9,36 @@ use update_document::{WrittenDocument, read_document, read_update};
 const UPDATE: &[u8] =
     b"\x30\x81\x96\x30\x76\x30\x74\x0c\x16\x73\x70\x69\x66\x66\x65\x3a\x2f\x2f\x65\x78\x61\x6d\x70\x6c\x65\x2e\x6f\x72\x67\x2f\x61\x30\x2e\x02\x01\x00\x30\x05\x06\x03\x2b\x65\x70\x04\x22\x04\x20\x11\x11\x11\x11\x11\x11\x11\x11\x11\x11\x11\x11\x11\x11\x11\x11\x11\x11\x11\x11\x11\x11\x11\x11\x11\x11\x11\x11\x11\x11\x11\x11\x30\x2a\x30\x05\x06\x03\x2b\x65\x70\x03\x21\x00\x4d\x29\x16\x7f\x3f\x19\x12\xa6\xf7\xad\xfa\x29\x3a\x05\x1a\x15\xc0\x5e\xc6\x7b\x8f\x17\x26\x7b\x1c\x55\x50\xdc\xe8\x53\xbd\x0d\x30\x1c\x30\x1a\x0c\x0b\x65\x78\x61\x6d\x70\x6c\x65\x2e\x6f\x72\x67\x04\x0b\x7b\x22\x6b\x65\x79\x73\x22\x3a\x5b\x5d\x7d";
 
+// A document of the entries 1 and 2, the bundle 3 and a reason.
+const DOCUMENT: &[u8] = b"\x30\x13\x30\x06\x02\x01\x01\x02\x01\x02\x30\x03\x02\x01\x03\x80\x04gone";
+
 #[test]
-fn written_documents_are_read(rt: HostRuntime) {
-    let reason = good(&rt, "short text", Utf8Ref::new("gone"));
+fn documents_are_written(rt: HostRuntime) {
     let entries = SequenceOf([1u8, 2].as_slice());
     let written = WrittenDocument {
         entries: &entries,
         bundles: [3u8].as_slice(),
-        reason: Some(reason),
+        reason: Utf8Ref::new("gone").ok(),
     };
     let bytes = good(&rt, "memory", written.to_der(rt.alloc()));
-    let expected =
-        b"\x30\x13\x30\x06\x02\x01\x01\x02\x01\x02\x30\x03\x02\x01\x03\x80\x04gone".as_slice();
-    same_bytes(&rt, "document", &bytes, expected);
+    same_bytes(&rt, "document", &bytes, DOCUMENT);
+}
+
+#[test]
+fn documents_are_read(rt: HostRuntime) {
     let read = good(
         &rt,
         "a document",
-        read_document::<u8, u8>(rt.alloc(), expected),
+        read_document::<u8, u8>(rt.alloc(), DOCUMENT),
     );
     same_bytes(&rt, "entries", &read.entries, &[1, 2]);
     same_bytes(&rt, "bundles", &read.bundles, &[3]);
-    let reason = some(&rt, "a reason", read.reason);
-    same(&rt, "reason", &reason.as_str(), &"gone");
+    same(
+        &rt,
+        "reason",
+        &read.reason.map(|text| text.as_str()),
+        &Some("gone"),
+    );
 }
 
 #[test]
