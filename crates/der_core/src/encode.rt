@@ -45,9 +45,9 @@ pub trait Encode {
         ensures { ToDer (encoding self.now) result }
     {
         let _ = self.encoded_len()?;
-        let mut writer = VecWriter::new(alloc);
+        let mut writer = VecWriter::behind(Vec::new(alloc));
         self.encode(&mut writer)?;
-        Ok(writer.into_vec())
+        Ok(writer.bytes)
     }
 }
 

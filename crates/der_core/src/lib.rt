@@ -40,7 +40,7 @@ pub use length::Length;
 pub use oid::{Arcs, ObjectIdentifier};
 pub use order::{DerOrd, ValueOrd};
 pub use tag::Tag;
-pub use writer::Writer;
+pub use writer::{VecWriter, Writer};
 
 /// What a call of this crate answers.
 pub type Result<T> = std::result::Result<T, Error>;

@@ -5,7 +5,6 @@ ghost use Rattle.der_core.specs.declared.error.Error.TheVariants as error;
 ghost use Rattle.der_core.specs.Encode.{Refused};
 
 use crate::Error;
-use std::alloc::Global;
 
 /// What bytes are written to.
 pub trait Writer {
@@ -29,27 +28,20 @@ pub trait Writer {
         ensures refused { IfErr result (Refused refusals last_refusal self.old self.new) };
 }
 
-/// A writer that keeps the bytes.
+/// A writer that keeps the bytes, behind those that its vector has. It refuses only for want of memory.
 #[derive(Drop)]
-pub(crate) struct VecWriter {
-    bytes: Vec<u8>,
-    refusals: u64,
+pub struct VecWriter {
+    pub bytes: Vec<u8>,
+    /// How often it refused.
+    pub refusals: u64,
 }
 
 impl VecWriter {
-    pub(crate) fn new(alloc: Global) -> Self
-        ensures { result.bytes.items ≡ [] }
+    /// A writer behind the bytes of this vector.
+    pub fn behind(bytes: Vec<u8>) -> Self
+        ensures { result.bytes ≡ bytes }
     {
-        VecWriter {
-            bytes: Vec::new(alloc),
-            refusals: 0,
-        }
-    }
-
-    pub(crate) fn into_vec(self) -> Vec<u8>
-        ensures { result ≡ self.bytes }
-    {
-        self.bytes
+        VecWriter { bytes, refusals: 0 }
     }
 }
 

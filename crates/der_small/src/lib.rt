@@ -25,8 +25,8 @@ mod utf8;
 pub use bit_string::{BitString, BitStringRef};
 pub use der_core::{
     Any, AnyRef, Arcs, Choice, Cursor, Decode, DecodeValue, DerOrd, Encode, EncodeValue, Error,
-    FixedTag, Lawful, LawfulValue, Length, ObjectIdentifier, Result, Tag, ValueOrd, Writer,
-    encode_tagged, field_at, laws, tagged_len,
+    FixedTag, Lawful, LawfulValue, Length, ObjectIdentifier, Result, Tag, ValueOrd, VecWriter,
+    Writer, encode_tagged, field_at, laws, tagged_len,
 };
 pub use document::Document;
 pub use octet_string::{OctetString, OctetStringRef};

@@ -6,7 +6,7 @@ use der_small::laws::{
 use der_small::{
     Any, AnyRef, BitString, BitStringRef, Choice, Cursor, Decode, DerOrd, Encode, EncodeValue,
     Error, FixedTag, Length, ObjectIdentifier, OctetString, OctetStringRef, Tag, Utf8Ref, ValueOrd,
-    field_at, tagged_len,
+    VecWriter, field_at, tagged_len,
 };
 use std::cmp::Ordering;
 use std::test::Fail;
@@ -283,6 +283,15 @@ fn laws(_rt: HostRuntime) {
     equal_texts_are_equal_identifiers();
     no_value_begins_another();
     no_encoding_begins_another::<OctetStringRef>();
+}
+
+// NULL, and the number 7 behind it.
+#[test]
+fn written_behind(rt: HostRuntime) -> Result<(), Fail> {
+    let mut writer = VecWriter::behind(Vec::from_slice(rt.alloc(), &[5, 0])?);
+    7u8.encode(&mut writer)?;
+    assert_eq!(rt; writer.bytes.as_slice(), [5, 0, 2, 1, 7].as_slice());
+    Ok(())
 }
 
 fn shown(rt: &HostRuntime) -> Result<[String; 6], Fail> {

@@ -14,13 +14,12 @@ ghost use Rattle.identity_update.specs.Places.{Ends};
 
 use crate::bundle::BundleParts;
 use crate::bundle_rules::CheckedBundles;
-use crate::document_writer::DocumentWriter;
 use crate::error::UpdateError;
 use crate::kept::KeptEntries;
 use crate::place::Place;
 use crate::places::{before, len_of};
 use crate::update::Update;
-use der_core::{AnyRef, Encode, EncodeValue, Tag};
+use der_core::{AnyRef, Encode, EncodeValue, Tag, VecWriter};
 use der_small::Utf8Ref;
 use std::alloc::Global;
 use update_document::WrittenDocument;
@@ -86,7 +85,7 @@ fn write_document(
 {
     let mut bytes = room;
     bytes.clear();
-    let mut writer = DocumentWriter { bytes, refusals: 0 };
+    let mut writer = VecWriter::behind(bytes);
     let document = WrittenDocument {
         entries: &list_of(written),
         bundles,

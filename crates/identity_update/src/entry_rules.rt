@@ -17,11 +17,11 @@ ghost use Rattle.spki.specs.Same.{same_algorithm as same_algorithm_of, same_bits
 ghost use Rattle.identity_update.specs.Verdict.{IsRefusal, map_refusal, purpose_check, holds_no_other as holds_no_other_of, keys_check, entry_check, entries_check};
 ghost use Rattle.identity_update.specs.declared.error.UpdateError.TheVariants.{Subject};
 
-use crate::document_writer::DocumentWriter;
 use crate::entry::CheckedEntry;
 use crate::error::UpdateError;
 use crate::kept::KeptEntries;
 use crate::places::append;
+use der_core::VecWriter;
 use der_small::{BitStringRef, Utf8Ref};
 use pkcs8::PrivateKeyInfoRef;
 use spiffe_id::{SpiffeId, SpiffeIdError};
@@ -134,10 +134,7 @@ pub(crate) fn check_entries(
     ensures err { IfErr result (IsRefusal (entries_check 0 (map written_entry entries.entry.items))) }
 {
     let mut kept = Vec::with_capacity(alloc, entries.len())?;
-    let mut writer = DocumentWriter {
-        bytes: Vec::with_capacity(alloc, room)?,
-        refusals: 0,
-    };
+    let mut writer = VecWriter::behind(Vec::with_capacity(alloc, room)?);
     let mut left = entries;
     left.reverse();
     while let Some(entry) = left.pop() {
@@ -164,10 +161,7 @@ pub(crate) fn check_pairs(
     ensures err { IfErr result (IsRefusal (pairs_check 0 (map checked_entry entries.entry.items))) }
 {
     let mut kept = Vec::with_capacity(alloc, entries.len())?;
-    let mut writer = DocumentWriter {
-        bytes: Vec::new(alloc),
-        refusals: 0,
-    };
+    let mut writer = VecWriter::behind(Vec::new(alloc));
     for entry in entries {
         check_keys(kept.len(), &entry.private_key, &entry.public_key)?;
         let one = append(&mut writer, entry)?;

@@ -13,7 +13,6 @@
 mod assembly;
 mod bundle;
 mod bundle_rules;
-mod document_writer;
 mod entries;
 mod entry;
 mod entry_parts;

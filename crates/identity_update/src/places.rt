@@ -10,12 +10,11 @@ ghost use Rattle.identity_update.specs.Lawful.{HasOneKey};
 ghost use Rattle.identity_update.specs.Place.{FoundAt, IsWithin, part};
 ghost use Rattle.identity_update.specs.Places.{StandsAt, attributes_field, behind_attributes, held_field};
 
-use crate::document_writer::DocumentWriter;
 use crate::entry::CheckedEntry;
 use crate::error::UpdateError;
 use crate::kept::{KeptAny, KeptEntry};
 use crate::place::Place;
-use der_core::{Encode, tagged_len};
+use der_core::{Encode, VecWriter, tagged_len};
 use der_small::BitStringRef;
 use pkcs8::AttributesRef;
 
@@ -173,7 +172,7 @@ fn keep(document: &[u8], entry: CheckedEntry<'_>, end: u32) -> KeptEntry
 
 /// Writes an entry behind those before it, and answers what is kept of it beside its encoding.
 pub(crate) fn append(
-    writer: &mut DocumentWriter,
+    writer: &mut VecWriter,
     entry: CheckedEntry<'_>,
 ) -> Result<KeptEntry, UpdateError>
     requires one { HasOneKey (checked_entry entry) }

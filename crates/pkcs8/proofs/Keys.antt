@@ -1,5 +1,5 @@
 -- Where the parts of a private key cannot be read, there is none.
-use Rattle.std.proofs.Common.{◌≡◌, ℕ, ◌<◌, ◌^◌, List, ◌++◌, length, Option, Some, None, refl, ap, subst, ◌∙◌}
+use Rattle.std.proofs.Common.{◌≡◌, ℕ, ◌<◌, ◌^◌, List, ◌++◌, length, Option, Some, None, refl}
 use Rattle.der_core.specs.Der.{IsTag, IsValue, encode}
 use Rattle.der_core.specs.Decode.{Front, NoFront, ReadsTagged, ReadsTagged-one_value}
 use Rattle.der_core.specs.SequenceLaws.{field_same, then_none, then_same}
@@ -7,9 +7,9 @@ use Rattle.der_core.specs.Tags.{tag_129, tag_160}
 use Rattle.pkcs8.specs.Extensions.{IsExtensions}
 use Rattle.pkcs8.specs.Version.{version_of}
 use Rattle.pkcs8.specs.ReadLaws.{one_version, version_value}
-use Rattle.pkcs8.specs.PrivateKey.{KeyParts, PartReads, ReadsVersion, AfterAttributes, AfterKey, NoField, PrivateKeyFields, attributes_tag, public_key_tag}
+use Rattle.pkcs8.specs.PrivateKey.{KeyParts, PartReads, ReadsVersion, AfterAttributes, AfterKey, PrivateKeyFields, attributes_tag, public_key_tag}
 use Rattle.pkcs8.specs.declared.version.Version.{Version}
-use Rattle.pkcs8.specs.declared.version.Version.TheVariants.{V1, V2}
+use Rattle.pkcs8.specs.declared.version.Version.TheVariants.{V2}
 
 -- What is read of a field of the tag of the public key.
 pub record PublicField {B : Type 0} (H : List ℕ → B → Type 0) (content rest : List ℕ) : Type 0 where

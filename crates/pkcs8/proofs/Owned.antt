@@ -2,7 +2,6 @@
 use Rattle.std.proofs.Common.{◌≡◌, ℕ, ◌<◌, ◌^◌, List, ◌∷◌, length, Option, Some, None, refl, subst, sym}
 use Rattle.der_core.specs.Any.{plain_ref}
 use Rattle.der_core.specs.Decode.{ReadsTagged}
-use Rattle.der_core.specs.Der.{encode}
 use Rattle.der_core.specs.Laws.{content_fits}
 use Rattle.der_core.specs.declared.any.AnyRef.{AnyRef}
 use Rattle.der_core.proofs.Owned.{SameReads, same_tagged}

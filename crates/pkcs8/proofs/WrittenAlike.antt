@@ -1,14 +1,12 @@
 -- Private keys that are read from the same bytes are written alike.
-use Rattle.std.proofs.Common.{◌≡◌, ℕ, List, Option, Some, None, option_map, refl, sym, ap, subst, ◌∙◌}
+use Rattle.std.proofs.Common.{◌≡◌, ℕ, List, Option, Some, None, refl, sym, ap, subst, ◌∙◌}
 use Rattle.der_core.specs.Decode.{ReadsTagged}
-use Rattle.der_core.specs.Der.{IsValue, encode}
+use Rattle.der_core.specs.Der.{encode}
 use Rattle.der_core.specs.Tags.{tag_48}
-use Rattle.der_core.specs.SequenceLaws.{ReadsOne}
 use Rattle.spki.specs.declared.algorithm.AlgorithmIdentifier.{AlgorithmIdentifier}
 use Rattle.pkcs8.specs.PrivateKey.{KeyParts, PartReads, PartTexts, PrivateKeyFields, fields_written, map_parts}
 use Rattle.pkcs8.specs.PrivateKeyInfo.{PrivateKeyContent, parts_of, private_key_encoding}
 use Rattle.pkcs8.specs.ReadLaws.{ContentOne, one_fields, same_contents}
-use Rattle.pkcs8.specs.Version.{version_of, version_byte}
 use Rattle.pkcs8.specs.declared.private_key_info.PrivateKeyInfo.{PrivateKeyInfo}
 use Rattle.pkcs8.proofs.Keys.{PartValues}
 use Rattle.pkcs8.proofs.Parts.{PartsTo, fields_to}

@@ -10,7 +10,6 @@ use Rattle.der_core.specs.declared.error.Error.{Error as DerError}
 use Rattle.der_core.specs.declared.error.Error.TheVariants as der
 use Rattle.der_small.specs.Bits.{PlainBits, BitsContent}
 use Rattle.spki.specs.ReadLaws.{Outcome, read, malformed, trailing, algorithm_one, algorithm_value, same_outcome}
-use Rattle.spki.specs.PlainAlgorithm.{PlainAlgorithm, ReadsAlgorithm}
 use Rattle.pkcs8.specs.Answers.{IsOfAFile, ReadAnswer, written_answer}
 use Rattle.pkcs8.specs.Extensions.{IsExtensions}
 use Rattle.pkcs8.specs.PlainPrivateKey.{PlainPrivateKey, PlainKeyContent, ReadsOctets, ReadsPrivateKey, plain_reads}

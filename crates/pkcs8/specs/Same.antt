@@ -1,5 +1,5 @@
 -- Whether two private keys are the same as plain data.
-use Rattle.std.proofs.Common.{◌≡◌, ℕ, List, Bool, Option, ap, ◌&&◌}
+use Rattle.std.proofs.Common.{◌≡◌, Bool, ap, ◌&&◌}
 use Rattle.std.proofs.lemmas.Bool.Decides.{Decides-and, Decides-like}
 use Rattle.std.specs.Bool.{Decides}
 use Rattle.std.specs.Cmp.Lexicographic.{bytes_decides, pointwise}

@@ -1,6 +1,5 @@
 -- One answer to each list of bytes.
 use Rattle.std.proofs.Common.{◌≡◌, ℕ, ◌<◌, ◌^◌, nat_lt, List, [], ◌∷◌, ◌++◌, length, Bool, true, false, Option, Some, None, Result, Ok, Err, IfSome, refl, sym, ap, subst, ◌∙◌, if◌then◌else◌}
-use Rattle.std.proofs.lemmas.List.{append-nil}
 use Rattle.der_core.specs.Any.{PlainAny, der_of}
 use Rattle.der_core.specs.Decode.{NoFront, Trails}
 use Rattle.der_core.specs.Der.{IsTag, IsValue, encode}
