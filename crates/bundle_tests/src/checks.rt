@@ -7,10 +7,6 @@ pub(crate) fn good<T, E: Debug>(rt: &impl Abort, what: &str, answer: Result<T, E
     answer.expect(rt, what)
 }
 
-pub(crate) fn some<T>(rt: &impl Abort, what: &str, answer: Option<T>) -> T {
-    answer.expect(rt, what)
-}
-
 pub(crate) fn same<T: PartialEq + Debug>(rt: &impl Abort, what: &str, found: &T, wanted: &T) {
     assert_eq!(rt; found, wanted, "{what}");
 }

@@ -8,4 +8,6 @@ mod programs;
 #[cfg(test)]
 mod refusals;
 #[cfg(test)]
+mod samples;
+#[cfg(test)]
 mod sessions;

@@ -1,8 +1,6 @@
-// Texts of updates are by a script outside this repository, from the grammar of `docs/FORMATS.md` alone: nested
-// tag, length and content, then Base64 in lines. The fingerprint is
-// `openssl pkey -pubin -inform DER -outform DER | openssl dgst -sha256 -binary | openssl base64` of the public
-// key document in them.
+// Further texts are made as those of `samples.rt`.
 use crate::checks::{good, same};
+use crate::samples::{REPORT, SAMPLE, WITHDRAWN};
 use identity_commands::Status;
 use identity_io::{LIMIT, MemorySink, MemorySource};
 use identity_program::{run, unread};
@@ -11,13 +9,6 @@ use std::io::ErrorKind;
 use std::process::Abort;
 use std::sync::Wait;
 use std::thread::Threads;
-
-// One identity and one bundle: the sample of the README.
-const SAMPLE: &str =
-    "MIGWMHYwdAwWc3BpZmZlOi8vZXhhbXBsZS5vcmcvYTAuAgEAMAUGAytlcAQiBCAR\nERERERERERERERERERERERERERERERERERERERERETAqMAUGAytlcAMhAE0pFn8/\nGRKm9636KToFGhXAXsZ7jxcmexxVUNzoU70NMBwwGgwLZXhhbXBsZS5vcmcEC3si\na2V5cyI6W119";
-
-const REPORT: &str =
-    "revision 1\nidentity spiffe://example.org/a 1.3.101.112 Vd1MdLDkhTTi9OFzzs61DfjyenrCqomRzHrpFOAwvO0=\nbundle example.org 0\n";
 
 // Two identities, and three bundles of which the last replaces the first. Trust domains and key IDs ascend in the
 // report, the last of equal key IDs counts, one key ID is empty, and one has a space, `%`, `~` and a letter beyond ASCII.
@@ -35,9 +26,7 @@ const SEVERAL_REPORT: &str = "revision 1\n\
      bundle a.test 2  a%20b%25~%C3%A9\n\
      bundle b.test 2 k1 k2\n";
 
-// Withdrawals: with the bundle of the sample, and with no bundle and a reason of bytes that aren't plain.
-const WITHDRAWN: &str = "MCYwADAcMBoMC2V4YW1wbGUub3JnBAt7ImtleXMiOltdfYAEZ29uZQ==";
-
+// A withdrawal with no bundle, and a reason of bytes that aren't plain.
 const MOVED: &str = "MBQwADAAgA5tb3ZlZDogNTAlIMO8Cg==";
 
 // The status of a run over memory in pieces, and how many bytes it wrote.

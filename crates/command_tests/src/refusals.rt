@@ -1,18 +1,11 @@
-// The text is by a script outside this repository, from the grammar of `docs/FORMATS.md` alone; the fingerprint is by `openssl`.
 use crate::checks::{good, same, same_bytes, same_text};
+use crate::samples::{REPORT, SAMPLE};
 use identity_commands::{Status, refusal_text, report};
 use identity_io::{MemorySink, MemorySource};
 use identity_source::UpdateError;
 use spiffe_core::{JsonError, JwtBundleError, SpiffeIdError};
 use std::alloc::Global;
 use std::process::Abort;
-
-// One identity and one bundle: the sample of the README.
-const SAMPLE: &str =
-    "MIGWMHYwdAwWc3BpZmZlOi8vZXhhbXBsZS5vcmcvYTAuAgEAMAUGAytlcAQiBCAR\nERERERERERERERERERERERERERERERERERERERERETAqMAUGAytlcAMhAE0pFn8/\nGRKm9636KToFGhXAXsZ7jxcmexxVUNzoU70NMBwwGgwLZXhhbXBsZS5vcmcEC3si\na2V5cyI6W119";
-
-const REPORT: &str =
-    "revision 1\nidentity spiffe://example.org/a 1.3.101.112 Vd1MdLDkhTTi9OFzzs61DfjyenrCqomRzHrpFOAwvO0=\nbundle example.org 0\n";
 
 // What waits for nobody answers the same.
 #[test]
@@ -32,7 +25,7 @@ fn refused(rt: &impl Abort, alloc: Global, error: UpdateError, line: &str) {
     same_text(rt, "refusal", &found, &wanted);
 }
 
-// The lines that no text above shows, by the table in `docs/FORMATS.md`.
+// The lines that no other test shows, by the table in `docs/FORMATS.md`.
 #[test]
 fn refusals(rt: HostRuntime) {
     for (error, line) in [

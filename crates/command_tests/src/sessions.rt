@@ -1,18 +1,11 @@
-// Texts of updates are by a script outside this repository, from the grammar of `docs/FORMATS.md` alone.
 use crate::checks::{good, same, some};
+use crate::samples::{SAMPLE, WITHDRAWN};
 use identity_commands::Status;
 use identity_io::{LIMIT, MemorySink, MemorySource};
 use identity_script::session;
 use std::alloc::Global;
 use std::process::Abort;
 use std::sync::Wait;
-
-// One identity and one bundle: the sample of the README, of 207 bytes.
-const SAMPLE: &str =
-    "MIGWMHYwdAwWc3BpZmZlOi8vZXhhbXBsZS5vcmcvYTAuAgEAMAUGAytlcAQiBCAR\nERERERERERERERERERERERERERERERERERERERERETAqMAUGAytlcAMhAE0pFn8/\nGRKm9636KToFGhXAXsZ7jxcmexxVUNzoU70NMBwwGgwLZXhhbXBsZS5vcmcEC3si\na2V5cyI6W119";
-
-// A withdrawal with the same bundle, of 56 bytes.
-const WITHDRAWN: &str = "MCYwADAcMBoMC2V4YW1wbGUub3JnBAt7ImtleXMiOltdfYAEZ29uZQ==";
 
 const REPLIES: &str =
     "accepted 1\nrefused: text: invalid Base64 length\nsvid 1 spiffe://example.org/a\nbundle 1 example.org 0\naccepted 2\nsvid 2 spiffe://example.org/a\n";

@@ -18,7 +18,3 @@ pub(crate) fn same<T: PartialEq + Debug>(rt: &impl Abort, what: &str, found: &T,
 pub(crate) fn same_text(rt: &impl Abort, what: &str, found: &str, wanted: &str) {
     assert_eq!(rt; found, wanted, "{what}");
 }
-
-pub(crate) fn same_bytes(rt: &impl Abort, what: &str, found: &[u8], wanted: &[u8]) {
-    assert_eq!(rt; found, wanted, "{what}");
-}

@@ -11,10 +11,6 @@ pub(crate) fn some<T>(rt: &impl Abort, what: &str, answer: Option<T>) -> T {
     answer.expect(rt, what)
 }
 
-pub(crate) fn same<T: PartialEq + Debug>(rt: &impl Abort, what: &str, found: &T, wanted: &T) {
-    assert_eq!(rt; found, wanted, "{what}");
-}
-
 pub(crate) fn same_text(rt: &impl Abort, what: &str, found: &str, wanted: &str) {
     assert_eq!(rt; found, wanted, "{what}");
 }
