@@ -7,8 +7,8 @@ use Rattle.serde_json.specs.View.{view, items_of}
 use Rattle.serde_json.specs.declared.value.Value.{Value}
 use Rattle.serde_json.specs.Written.{has_float, items_have_float}
 use Rattle.spiffe_id.specs.Rules.{map_ok, then_ok}
-use Rattle.spiffe_core.specs.JwtAuthority.{Authority, authority_of, key_id_of, with_key_id}
-use Rattle.spiffe_core.specs.KeySet.{authorities_of}
+use Rattle.spiffe_bundle.specs.JwtAuthority.{Authority, authority_of, key_id_of, with_key_id}
+use Rattle.spiffe_bundle.specs.KeySet.{authorities_of}
 use Rattle.bundle_document.specs.Keys.{elements, use_of, is_for_tokens, is_for_x509, is_for_neither, is_jwt_key, is_named, is_unnamed, named_authority}
 use Rattle.bundle_document.specs.Reading.{key_of, naming_of, none_unnamed}
 use Rattle.bundle_document.specs.declared.key_use.KeyUse.{KeyUse}

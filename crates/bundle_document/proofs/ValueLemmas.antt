@@ -13,9 +13,9 @@ use Rattle.serde_json.specs.Written.{has_float, items_have_float, members_have_f
 use Rattle.serde_json.proofs.Views.{get_member-put, get_member-put_other}
 use Rattle.spiffe_id.specs.Rules.{map_ok, then_ok}
 use Rattle.spiffe_json.specs.Json.{whole_json}
-use Rattle.spiffe_core.specs.KeySet.{keys_array, keys_of, key_set_of, by_key_id, authorities_of}
-use Rattle.spiffe_core.specs.JwtAuthority.{IsJwk, key_id_of}
-use Rattle.spiffe_core.proofs.KeySets.{array_nests, keys_whole}
+use Rattle.spiffe_bundle.specs.KeySet.{keys_array, keys_of, key_set_of, by_key_id, authorities_of}
+use Rattle.spiffe_bundle.specs.JwtAuthority.{IsJwk, key_id_of}
+use Rattle.spiffe_bundle.proofs.KeySets.{array_nests, keys_whole}
 use Rattle.bundle_document.specs.Keys.{elements, key_set_value, is_jwt_key, is_named, named_authority}
 use Rattle.bundle_document.specs.Document.{IsDocument, keys_listed, with_number, numbered, plain_document, key_set_text, document_text, keys_text, number_text}
 use Rattle.bundle_document.specs.declared.error.DocumentError.{DocumentError}

@@ -7,7 +7,7 @@ use Rattle.serde_json.specs.Read.{max_depth}
 use Rattle.serde_json.specs.View.{items_of}
 use Rattle.serde_json.specs.Written.{items_have_float}
 use Rattle.spiffe_json.specs.Json.{whole_json}
-use Rattle.spiffe_core.specs.JwtAuthority.{Authority}
+use Rattle.spiffe_bundle.specs.JwtAuthority.{Authority}
 use Rattle.bundle_document.specs.Keys.{elements, key_set_value, is_jwt_key, is_named, named_authority}
 
 -- its sequence number and its refresh hint in seconds, how many keys it had for X.509 and how many for no use that

@@ -5,7 +5,7 @@ use Rattle.serde_json.specs.Data.{Data, Items, no_items, item, array, object, me
 use Rattle.serde_json.specs.Find.{get, as_str}
 use Rattle.serde_json.specs.View.{items_of}
 use Rattle.serde_json.specs.Written.{compact_text}
-use Rattle.spiffe_core.specs.JwtAuthority.{Authority, key_id_of}
+use Rattle.spiffe_bundle.specs.JwtAuthority.{Authority, key_id_of}
 use Rattle.bundle_document.specs.declared.key_use.KeyUse.{KeyUse}
 use Rattle.bundle_document.specs.declared.key_use.KeyUse.TheVariants.{JwtSvid, X509Svid, Other}
 

@@ -8,8 +8,8 @@ use Rattle.spiffe_id.specs.Rules.{map_ok, then_ok}
 use Rattle.spiffe_json.specs.Json.{whole_json}
 use Rattle.spiffe_json.specs.declared.error.JsonError.{JsonError}
 use Rattle.spiffe_json.specs.declared.error.JsonError.TheVariants.{Keys}
-use Rattle.spiffe_core.specs.JwtAuthority.{Authority}
-use Rattle.spiffe_core.specs.JwtBundle.{Bundle}
+use Rattle.spiffe_bundle.specs.JwtAuthority.{Authority}
+use Rattle.spiffe_bundle.specs.JwtBundle.{Bundle}
 use Rattle.bundle_document.specs.Keys.{elements, use_of, is_for_x509, is_for_neither, is_jwt_key, is_unnamed}
 use Rattle.bundle_document.specs.DocumentError.{deserialized}
 use Rattle.bundle_document.specs.Document.{Document, plain_document}

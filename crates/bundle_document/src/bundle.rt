@@ -10,7 +10,7 @@ ghost use Rattle.bundle_document.specs.Reading.{for_tokens, key_of, document_of_
 use crate::document::BundleDocument;
 use crate::error::DocumentError;
 use serde_json::{Value, put};
-use spiffe_core::{JwtAuthority, JwtBundle};
+use spiffe_bundle::{JwtAuthority, JwtBundle};
 use spiffe_json::{ReadError, read_json};
 use std::alloc::{AllocError, Global};
 

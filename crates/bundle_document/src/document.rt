@@ -3,7 +3,7 @@ ghost use Rattle.std.specs.Prelude.{◌≡◌, Ok, IfOk, map, true, false};
 ghost use Rattle.std.specs.List.{list_all};
 ghost use Rattle.serde_json.specs.View.{view, items_view, items_of};
 ghost use Rattle.serde_json.specs.Written.{items_have_float};
-ghost use Rattle.spiffe_core.specs.KeySet.{by_key_id, key_set_of};
+ghost use Rattle.spiffe_bundle.specs.KeySet.{by_key_id, key_set_of};
 ghost use Rattle.bundle_document.specs.Keys.{key_set_value, is_jwt_key, is_named};
 ghost use Rattle.bundle_document.specs.Document.{IsReadable, key_set_text, plain_document};
 

@@ -3,7 +3,7 @@ ghost use Rattle.std.specs.Prelude.{◌≡◌, option_and_then, option_map, code
 ghost use Rattle.serde_json.specs.Find.{get, as_str};
 ghost use Rattle.serde_json.specs.View.{view};
 ghost use Rattle.bundle_document.specs.Keys.{use_named, use_of, is_for_tokens, is_for_x509, is_for_neither, is_unnamed};
-ghost use Rattle.spiffe_core.specs.JwtAuthority.{key_id_of};
+ghost use Rattle.spiffe_bundle.specs.JwtAuthority.{key_id_of};
 
 use serde_json::Value;
 

@@ -4,7 +4,7 @@ ghost use Rattle.serde_json.specs.View.{view};
 ghost use Rattle.bundle_document.specs.Document.{IsReadable, document_text, key_set_text, with_number};
 ghost use Rattle.bundle_document.specs.Reading.{document_of};
 ghost use Rattle.identity_update.specs.Bundle.{plain_bundle};
-ghost use Rattle.spiffe_core.specs.KeySet.{by_key_id, key_set_of};
+ghost use Rattle.spiffe_bundle.specs.KeySet.{by_key_id, key_set_of};
 
 use crate::document::BundleDocument;
 use crate::error::DocumentError;

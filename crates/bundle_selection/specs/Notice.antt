@@ -1,8 +1,8 @@
 -- What a person at the terminal is told.
 use Rattle.std.specs.Prelude.{ℕ, List, Option, Some, codes}
-use Rattle.identity_commands.specs.Status.{notice_text}
-use Rattle.identity_commands.specs.declared.status.Status.{Status}
-use Rattle.identity_commands.specs.declared.status.Status.TheVariants.{Usage, TooLong}
+use Rattle.command_line.specs.Status.{notice_text}
+use Rattle.command_line.specs.declared.status.Status.{Status}
+use Rattle.command_line.specs.declared.status.Status.TheVariants.{Usage, TooLong}
 
 -- of a status of this program, none where the output says it
 abbrev pub selection_notice : Status → Option (List ℕ)

@@ -1,6 +1,6 @@
 -- The line of a refused bundle document.
 use Rattle.std.specs.Prelude.{ℕ, List, ◌++◌, codes, decimal}
-use Rattle.identity_commands.specs.Refusal.{json_rule}
+use Rattle.refusal_lines.specs.Refusal.{json_rule}
 use Rattle.bundle_document.specs.declared.error.DocumentError.{DocumentError}
 use Rattle.bundle_document.specs.declared.error.DocumentError.TheVariants.{Deserialize, Sequence, RefreshHint, MissingKeyId, OutOfMemory}
 

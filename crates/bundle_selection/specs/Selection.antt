@@ -3,9 +3,9 @@ use Rattle.std.specs.Prelude.{◌≡◌, ℕ, List, Option, IfSome, Result, Ok, 
 use Rattle.std.specs.Io.KnownBytes.{Appends, IsAtEnd}
 use Rattle.identity_io.specs.Causes.{Rose}
 use Rattle.identity_io.specs.Whole.{AppendsPrefix}
-use Rattle.identity_commands.specs.Outcome.{Streams}
-use Rattle.identity_commands.specs.declared.status.Status.{Status}
-use Rattle.identity_commands.specs.declared.status.Status.TheVariants.{Done, Refused, Usage, SourceFailed, SinkFailed, OutOfMemory, TooLong, BadScript}
+use Rattle.command_line.specs.Outcome.{Streams}
+use Rattle.command_line.specs.declared.status.Status.{Status}
+use Rattle.command_line.specs.declared.status.Status.TheVariants.{Done, Refused, Usage, SourceFailed, SinkFailed, OutOfMemory, TooLong, BadScript}
 use Rattle.bundle_document.specs.Document.{Document, key_set_text}
 use Rattle.bundle_document.specs.Reading.{document_of}
 use Rattle.bundle_document.specs.declared.error.DocumentError.{DocumentError}

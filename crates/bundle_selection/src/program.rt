@@ -3,9 +3,8 @@ ghost use Rattle.std.specs.Prelude.{◌≡◌, option_map};
 ghost use Rattle.bundle_selection.specs.Notice.{selection_notice};
 
 use crate::selecting::select;
-use identity_commands::Status;
+use command_line::{Status, end, unread, words_of};
 use identity_io::{StdSink, StdSource};
-use identity_program::{unread, words_of};
 use std::io;
 use std::process::ExitCode;
 
@@ -29,8 +28,5 @@ pub fn run_program(rt: &HostRuntime) -> ExitCode {
         Ok(words) => select(rt.alloc(), &words, &mut input, &mut out),
         Err(error) => unread(error.kind()),
     };
-    if let Some(notice) = notice(status) {
-        let _ = eprintln!(rt; "bundle_keys: {notice}");
-    }
-    ExitCode::from(status.number())
+    end(rt, "bundle_keys", status, notice(status))
 }

@@ -3,7 +3,7 @@ ghost use Rattle.std.specs.Prelude.{◌≡◌, ◌≢◌, IfOk, string_bytes};
 ghost use Rattle.bundle_selection.specs.Refusal.{document_line};
 
 use bundle_document::DocumentError;
-use identity_commands::json_text;
+use refusal_lines::json_text;
 use std::alloc::{AllocError, Global};
 
 /// The line of a refused document. Want of memory has none.

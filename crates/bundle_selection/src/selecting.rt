@@ -2,12 +2,12 @@
 ghost use Rattle.std.specs.Prelude.{◌≡◌, ◌≢◌, ◌≤◌, ◌<◌, ◌↔◌, IfOk, length};
 ghost use Rattle.bundle_document.specs.Reading.{document_of};
 ghost use Rattle.bundle_selection.specs.Selection.{Selects, selected_status, selected_text};
-ghost use Rattle.identity_commands.specs.Outcome.{Calm, HasSize, IsCalm, IsUntouched, Within};
-ghost use Rattle.identity_commands.specs.declared.status.Status.{Status};
+ghost use Rattle.command_line.specs.Outcome.{Calm, HasSize, IsCalm, IsUntouched, Within};
+ghost use Rattle.command_line.specs.declared.status.Status.{Status};
 
 use crate::refusal::refusal_text;
 use bundle_document::BundleDocument;
-use identity_commands::Status;
+use command_line::Status;
 use identity_io::{LIMIT, Sink, Source, read_all, write_all};
 use std::alloc::{AllocError, Global};
 

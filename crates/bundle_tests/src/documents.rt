@@ -2,7 +2,9 @@
 // wanted are python's `json.dumps(value, sort_keys=True, separators=(",", ":"))` of the keys for tokens.
 use crate::checks::{good, same, same_bytes, same_text};
 use bundle_document::{BundleDocument, BundleFeed, DocumentError, FeedError};
-use spiffe_core::{JsonError, JwtBundle, TrustDomain};
+use spiffe_bundle::JwtBundle;
+use spiffe_id::TrustDomain;
+use spiffe_json::JsonError;
 use std::alloc::Global;
 use std::process::Abort;
 

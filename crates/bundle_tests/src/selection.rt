@@ -1,7 +1,7 @@
 // The key set is as in the tests of documents.
 use crate::checks::{good, same};
 use bundle_selection::select;
-use identity_commands::Status;
+use command_line::Status;
 use identity_io::{LIMIT, MemorySink, MemorySource};
 use std::alloc::Global;
 use std::process::Abort;

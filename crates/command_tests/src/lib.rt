@@ -1,4 +1,5 @@
-//! Tests of `identity_commands`, `identity_script` and `identity_program`, over their public items alone.
+//! Tests of `tool_commands`, `tool_script`, `tool_watch` and `tool_program`, over their public items alone, and of texts and
+//! streams that are cut, damaged or failing at each place in turn.
 #![tactic(auto)]
 
 #[cfg(test)]
@@ -11,3 +12,11 @@ mod refusals;
 mod samples;
 #[cfg(test)]
 mod sessions;
+#[cfg(test)]
+mod streams;
+#[cfg(test)]
+mod texts;
+#[cfg(test)]
+mod threads;
+#[cfg(test)]
+mod watching;

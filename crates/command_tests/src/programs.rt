@@ -1,9 +1,9 @@
 // Further texts are made as those of `samples.rt`.
 use crate::checks::{good, same};
 use crate::samples::{REPORT, SAMPLE, WITHDRAWN};
-use identity_commands::Status;
+use command_line::{Status, unread};
 use identity_io::{LIMIT, MemorySink, MemorySource};
-use identity_program::{run, unread};
+use tool_program::run;
 use std::alloc::Global;
 use std::io::ErrorKind;
 use std::process::Abort;

@@ -1,8 +1,8 @@
 use crate::checks::{good, same, some};
 use crate::samples::{SAMPLE, WITHDRAWN};
-use identity_commands::Status;
+use command_line::Status;
 use identity_io::{LIMIT, MemorySink, MemorySource};
-use identity_script::session;
+use tool_script::session;
 use std::alloc::Global;
 use std::process::Abort;
 use std::sync::Wait;

@@ -4,5 +4,5 @@
 use std::process::ExitCode;
 
 fn main(rt: HostRuntime) -> ExitCode {
-    packing_program::run_program(&rt)
+    pack_program::run_program(&rt)
 }

@@ -11,7 +11,7 @@ pub mod SourceParts
 pub mod Rule
 pub mod Pane
 pub use Rattle.identity_io.specs.Causes
-pub use Rattle.spiffe_core.specs.JwtBundleSet
+pub use Rattle.spiffe_bundle.specs.JwtBundleSet
 pub use Rattle.identity_update.specs.Parts
 pub use Rattle.identity_update.specs.Bundle
 pub use Rattle.identity_update.specs.BundleMap

@@ -2,12 +2,12 @@
 ghost use Rattle.std.specs.Prelude.{◌≡◌, IfOk, Ok, map, option_map, slice_get};
 ghost use Rattle.identity_update.specs.Bundle.{plain_bundle};
 ghost use Rattle.identity_update.specs.BundleMap.{bundle_map};
-ghost use Rattle.spiffe_core.specs.JwtBundleSet.{find_bundle};
+ghost use Rattle.spiffe_bundle.specs.JwtBundleSet.{find_bundle};
 
 use crate::error::SourceError;
 use crate::state::State;
 use identity_update::{BundleParts, Entries, Identity};
-use spiffe_core::{BundleSource, JwtBundle, JwtBundleSet};
+use spiffe_bundle::{BundleSource, JwtBundle, JwtBundleSet};
 use spiffe_id::{DEFAULT_SVID, TrustDomain};
 use std::alloc::{AllocError, Global};
 use std::convert::Infallible;

@@ -4,7 +4,7 @@ ghost use Rattle.identity_update.specs.Bundle.{plain_bundle};
 ghost use Rattle.identity_update.specs.BundleMap.{bundle_map};
 
 use identity_update::{BundleParts, Entries, Update};
-use spiffe_core::JwtBundleSet;
+use spiffe_bundle::JwtBundleSet;
 use std::alloc::Global;
 use std::marker::Model;
 

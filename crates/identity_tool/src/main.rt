@@ -4,5 +4,5 @@
 use std::process::ExitCode;
 
 fn main(rt: HostRuntime) -> ExitCode {
-    identity_program::run_program(&rt, &rt)
+    tool_program::run_program(&rt, &rt)
 }

@@ -7,10 +7,10 @@ use Rattle.std.proofs.lemmas.Slice.Eq.{bytes_eq-Decides}
 use Rattle.der_core.specs.Der.{encode}
 use Rattle.der_core.specs.Laws.{length_encode}
 use Rattle.spiffe_id.specs.Rules.{map_ok, then_ok}
-use Rattle.spiffe_core.specs.Entries.{find_entry, with_entry}
-use Rattle.spiffe_core.specs.JwtBundleSet.{Bundles, with_bundle, with_bundles}
-use Rattle.spiffe_core.specs.JwtBundle.{Bundle as KeysOfDomain}
-use Rattle.spiffe_core.proofs.MapEntries.{found_same, found_other}
+use Rattle.spiffe_bundle.specs.Entries.{find_entry, with_entry}
+use Rattle.spiffe_bundle.specs.JwtBundleSet.{Bundles, with_bundle, with_bundles}
+use Rattle.spiffe_bundle.specs.JwtBundle.{Bundle as KeysOfDomain}
+use Rattle.spiffe_bundle.proofs.MapEntries.{found_same, found_other}
 use Rattle.update_document.specs.Refs.{BundleRef, written_bundle}
 use Rattle.update_document.specs.Spelling.{bundle_content}
 use Rattle.identity_update.specs.Bundle.{plain_bundle}

@@ -13,7 +13,7 @@ use Rattle.spki.specs.PlainPublicKey.{public_key_der}
 use Rattle.pkcs8.specs.PlainPrivateKey.{PlainPrivateKey, ReadsPrivateKey, bits_content, plain_reads, plain_texts, private_key_der}
 use Rattle.pkcs8.specs.PrivateKey.{fields_written}
 use Rattle.pkcs8.proofs.WrittenKeys.{fits_of, written_fields}
-use Rattle.spiffe_core.specs.JwtBundleSet.{Bundles}
+use Rattle.spiffe_bundle.specs.JwtBundleSet.{Bundles}
 use Rattle.update_document.specs.Document.{IsReasonText, ReadsReason}
 use Rattle.update_document.specs.Spelling.{bundle_content, bundle_der, entry_content, entry_der, reason_der}
 use Rattle.update_document.specs.Written.{ReadsBundle, ReadsEntry, ReadsText, ReadsUpdate}

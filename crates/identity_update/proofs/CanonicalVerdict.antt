@@ -2,7 +2,7 @@
 use Rattle.std.proofs.Common.{◌≡◌, ℕ, ◌+◌, Bool, true, List, [], ◌∷◌, map, Option, Some, None, IfSome, Result, Ok, Err, IsOk, refl, ap, ◌∙◌, if◌then◌else◌}
 use Rattle.std.specs.List.{AllByRecursion}
 use Rattle.der_small.specs.Bits.{PlainBits}
-use Rattle.spiffe_core.specs.KeySet.{key_set_of}
+use Rattle.spiffe_bundle.specs.KeySet.{key_set_of}
 use Rattle.spiffe_id.specs.Rules.{map_ok, then_ok}
 use Rattle.spiffe_id.specs.SpiffeId.{Id}
 use Rattle.spki.specs.Same.{algorithms_decide, bits_decide}

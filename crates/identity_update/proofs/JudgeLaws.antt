@@ -2,7 +2,7 @@
 use Rattle.std.proofs.Common.{◌≡◌, ℕ, ◌<◌, ◌^◌, List, [], ◌∷◌, length, map, option_map, Option, Some, None, IfSome, Result, Ok, Err, IfOk, refl, sym, ap, subst, ◌∙◌, arith}
 use Rattle.std.specs.Prelude.{string_bytes}
 use Rattle.spiffe_id.specs.Rules.{map_ok, then_ok}
-use Rattle.spiffe_core.specs.JwtBundleSet.{Bundles}
+use Rattle.spiffe_bundle.specs.JwtBundleSet.{Bundles}
 use Rattle.update_document.specs.Document.{IsReasonText}
 use Rattle.update_document.specs.Spelling.{document_der}
 use Rattle.update_document.specs.Written.{WrittenUpdate}

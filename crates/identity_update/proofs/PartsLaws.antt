@@ -4,9 +4,9 @@ use Rattle.std.proofs.lemmas.Bool.Decides.{nat_tests}
 use Rattle.std.proofs.lemmas.List.{drop_more, map-append, take_more}
 use Rattle.std.specs.List.{AllByRecursion}
 use Rattle.der_core.specs.declared.error.Error.TheVariants.{Overlength}
-use Rattle.spiffe_core.specs.JwtBundle.{Bundle as KeysOfDomain}
-use Rattle.spiffe_core.specs.JwtBundleSet.{Bundles, with_bundle}
-use Rattle.spiffe_core.specs.KeySet.{Authorities as KeySet, key_set_of}
+use Rattle.spiffe_bundle.specs.JwtBundle.{Bundle as KeysOfDomain}
+use Rattle.spiffe_bundle.specs.JwtBundleSet.{Bundles, with_bundle}
+use Rattle.spiffe_bundle.specs.KeySet.{Authorities as KeySet, key_set_of}
 use Rattle.spiffe_id.specs.Rules.{map_ok, then_ok}
 use Rattle.update_document.specs.Document.{IsReasonText}
 use Rattle.identity_update.specs.Bundle.{plain_bundle}

@@ -3,7 +3,7 @@ use Rattle.std.proofs.Common.{◌≡◌, ℕ, ◌+◌, Bool, true, false, List, 
 use Rattle.spiffe_id.specs.Rules.{map_ok, then_ok}
 use Rattle.spiffe_id.specs.SpiffeId.{id_of}
 use Rattle.spiffe_id.specs.TrustDomain.{trust_domain_of}
-use Rattle.spiffe_core.specs.KeySet.{key_set_of}
+use Rattle.spiffe_bundle.specs.KeySet.{key_set_of}
 use Rattle.spki.specs.PlainPublicKey.{PlainPublicKey}
 use Rattle.pkcs8.specs.PlainPrivateKey.{PlainPrivateKey}
 use Rattle.update_document.specs.Written.{WrittenBundle, WrittenEntry, WrittenUpdate}

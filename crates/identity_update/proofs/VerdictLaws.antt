@@ -7,7 +7,7 @@ use Rattle.der_small.specs.Bits.{PlainBits}
 use Rattle.spiffe_id.specs.Rules.{map_ok, then_ok}
 use Rattle.spiffe_id.specs.SpiffeId.{id_of, id_text}
 use Rattle.spiffe_id.specs.TrustDomain.{trust_domain_of}
-use Rattle.spiffe_core.specs.KeySet.{Authorities as KeySet, key_set_of}
+use Rattle.spiffe_bundle.specs.KeySet.{Authorities as KeySet, key_set_of}
 use Rattle.spki.specs.PlainPublicKey.{PlainPublicKey, public_key_der}
 use Rattle.spki.specs.Same.{algorithms_decide, bits_decide, same_algorithm}
 use Rattle.pkcs8.specs.PlainPrivateKey.{PlainPrivateKey, private_key_der}

@@ -1,9 +1,9 @@
 -- The keys of the bundles of an update by their trust domains.
 use Rattle.std.specs.Prelude.{◌≡◌, ℕ, List, [], map, is_some, Result, Ok, Err}
-use Rattle.spiffe_core.specs.JwtBundle.{Bundle as KeysOfDomain}
-use Rattle.spiffe_core.specs.JwtBundleSet.{Bundles, find_bundle, with_bundles}
-use Rattle.spiffe_core.specs.KeySet.{Authorities, key_set_of}
-use Rattle.spiffe_core.specs.declared.error.JwtBundleError.{JwtBundleError}
+use Rattle.spiffe_bundle.specs.JwtBundle.{Bundle as KeysOfDomain}
+use Rattle.spiffe_bundle.specs.JwtBundleSet.{Bundles, find_bundle, with_bundles}
+use Rattle.spiffe_bundle.specs.KeySet.{Authorities, key_set_of}
+use Rattle.spiffe_bundle.specs.declared.error.JwtBundleError.{JwtBundleError}
 use Rattle.identity_update.specs.Parts.{Bundle}
 use Rattle.identity_update.specs.Verdict.{has_bundle}
 

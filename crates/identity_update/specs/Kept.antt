@@ -8,7 +8,7 @@ use Rattle.der_core.specs.Tag.{byte_of}
 use Rattle.der_small.specs.Bits.{PlainBits, AreBits}
 use Rattle.spki.specs.PlainAlgorithm.{PlainAlgorithm}
 use Rattle.spki.specs.PlainPublicKey.{public_key_der}
-use Rattle.spiffe_core.specs.JwtBundleSet.{Bundles}
+use Rattle.spiffe_bundle.specs.JwtBundleSet.{Bundles}
 use Rattle.identity_update.specs.Bundle.{plain_bundle}
 use Rattle.identity_update.specs.BundleMap.{bundle_map}
 use Rattle.identity_update.specs.Canonical.{update_der}

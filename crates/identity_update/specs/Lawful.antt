@@ -3,7 +3,7 @@ use Rattle.std.specs.Prelude.{◌≡◌, ℕ, List, [], ◌∷◌, true, Option,
 use Rattle.std.specs.List.{AllByRecursion}
 use Rattle.spiffe_id.specs.SpiffeId.{id_of, id_text}
 use Rattle.spiffe_id.specs.TrustDomain.{trust_domain_of}
-use Rattle.spiffe_core.specs.KeySet.{key_set_of}
+use Rattle.spiffe_bundle.specs.KeySet.{key_set_of}
 use Rattle.update_document.specs.Document.{IsReasonText}
 use Rattle.identity_update.specs.Parts.{Bundle, Entry, UpdateParts}
 use Rattle.identity_update.specs.Verdict.{has_bundle}

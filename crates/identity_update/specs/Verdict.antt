@@ -6,7 +6,7 @@ use Rattle.der_small.specs.Bits.{PlainBits}
 use Rattle.spiffe_id.specs.Rules.{map_ok, then_ok}
 use Rattle.spiffe_id.specs.SpiffeId.{Id, id_of}
 use Rattle.spiffe_id.specs.TrustDomain.{trust_domain_of}
-use Rattle.spiffe_core.specs.KeySet.{key_set_of}
+use Rattle.spiffe_bundle.specs.KeySet.{key_set_of}
 use Rattle.spki.specs.PlainPublicKey.{PlainPublicKey}
 use Rattle.pkcs8.specs.PlainPrivateKey.{PlainPrivateKey}
 use Rattle.update_document.specs.Written.{WrittenEntry, WrittenBundle, WrittenUpdate}

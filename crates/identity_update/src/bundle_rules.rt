@@ -1,8 +1,8 @@
 //! The rules of bundles.
 ghost use Rattle.std.specs.Prelude.{◌≡◌, ◌⊎◌, ◌++◌, ◌∷◌, [], ℕ, List, Ok, map, IfOk, IfErr, OnOk};
 ghost use Rattle.std.specs.List.{AllByRecursion};
-ghost use Rattle.spiffe_core.specs.JwtBundleSet.{with_bundle};
-ghost use Rattle.spiffe_core.specs.KeySet.{key_set_of};
+ghost use Rattle.spiffe_bundle.specs.JwtBundleSet.{with_bundle};
+ghost use Rattle.spiffe_bundle.specs.KeySet.{key_set_of};
 ghost use Rattle.spiffe_id.specs.TrustDomain.{trust_domain_of};
 ghost use Rattle.update_document.specs.Refs.{written_bundle};
 ghost use Rattle.identity_update.specs.Bundle.{plain_bundle};
@@ -14,7 +14,7 @@ ghost use Rattle.identity_update.specs.declared.error.UpdateError.TheVariants.{A
 
 use crate::bundle::BundleParts;
 use crate::error::UpdateError;
-use spiffe_core::{JwtBundle, JwtBundleError, JwtBundleSet};
+use spiffe_bundle::{JwtBundle, JwtBundleError, JwtBundleSet};
 use spiffe_id::{SpiffeIdError, TrustDomain};
 use std::alloc::Global;
 use update_document::BundleRef;

@@ -1,5 +1,6 @@
 //! Why a text or parts are refused as an update.
-use spiffe_core::{JwtBundleError, SpiffeIdError};
+use spiffe_bundle::JwtBundleError;
+use spiffe_id::SpiffeIdError;
 use std::alloc::{AllocError, AllocFailed};
 
 /// The first rule that an update breaks, or want of memory. Numbers count from 0, and no cause is want of memory.

@@ -7,7 +7,7 @@ ghost use Rattle.identity_update.specs.Verdict.{members_check};
 
 use crate::error::UpdateError;
 use crate::kept::KeptEntry;
-use spiffe_core::JwtBundleSet;
+use spiffe_bundle::JwtBundleSet;
 
 /// Looks for a bundle of each entry's trust domain, in the set that was made of the bundles while their key sets were read.
 pub(crate) fn check_members(set: &JwtBundleSet, entries: &[KeptEntry]) -> Result<(), UpdateError>

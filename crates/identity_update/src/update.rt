@@ -22,7 +22,7 @@ use crate::place::Place;
 use crate::text::{decode_text, document_in, encode_text};
 use crate::verdict::judge;
 use base64ct::LineEnding;
-use spiffe_core::JwtBundleSet;
+use spiffe_bundle::JwtBundleSet;
 use std::alloc::Global;
 use std::marker::Model;
 use std::str;

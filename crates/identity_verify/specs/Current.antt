@@ -1,8 +1,8 @@
 -- The state that judged a token, and its bundles.
 use Rattle.std.specs.Prelude.{ℕ, List, Result, Ok, Err, Option}
 use Rattle.std.specs.declared.convert.Infallible.{Infallible}
-use Rattle.spiffe_core.specs.JwtBundle.{Bundle}
-use Rattle.spiffe_core.specs.JwtBundleSet.{find_bundle}
+use Rattle.spiffe_bundle.specs.JwtBundle.{Bundle}
+use Rattle.spiffe_bundle.specs.JwtBundleSet.{find_bundle}
 use Rattle.identity_update.specs.BundleMap.{bundle_map}
 use Rattle.identity_source.specs.State.{PlainState}
 use Rattle.identity_verify.specs.declared.current.Verified.{Verified}

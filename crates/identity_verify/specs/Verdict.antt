@@ -8,9 +8,9 @@ use Rattle.spiffe_json.specs.Json.{whole_json}
 use Rattle.spiffe_json.specs.declared.error.JsonError.{JsonError}
 use Rattle.spiffe_token.specs.declared.jwt_alg.JwtAlg.{JwtAlg}
 use Rattle.spiffe_token.specs.JwtSvid.{Svid}
-use Rattle.spiffe_core.specs.JwtAuthority.{Authority}
-use Rattle.spiffe_core.specs.JwtBundle.{Bundle}
-use Rattle.spiffe_core.specs.KeySet.{find_authority}
+use Rattle.spiffe_bundle.specs.JwtAuthority.{Authority}
+use Rattle.spiffe_bundle.specs.JwtBundle.{Bundle}
+use Rattle.spiffe_bundle.specs.KeySet.{find_authority}
 use Rattle.identity_verify.specs.declared.backend.Signature.{Signature}
 use Rattle.identity_verify.specs.declared.backend.Signature.TheVariants.{Good, Bad, Unusable}
 use Rattle.identity_verify.specs.declared.error.VerifyError.{VerifyError}

@@ -1,7 +1,7 @@
 //! Verification over the state that a reader of the identity source has now.
 ghost use Rattle.std.specs.Prelude.{◌≡◌, ℕ, List, Option, Ok, map, string_bytes, IfOk, IfErr};
 ghost use Rattle.identity_update.specs.BundleMap.{bundle_map};
-ghost use Rattle.spiffe_core.specs.JwtBundleSet.{find_bundle};
+ghost use Rattle.spiffe_bundle.specs.JwtBundleSet.{find_bundle};
 ghost use Rattle.identity_source.specs.History.{EndsWith};
 ghost use Rattle.identity_source.specs.Reader.{PlainReader, Renewed};
 ghost use Rattle.identity_verify.specs.Decoding.{IsDecoding};

@@ -12,7 +12,7 @@ use crate::error::{JwtVerificationError, JwtVerificationErrorKind, VerifyError};
 use crate::key_parts::check_authority;
 use crate::key_use::check_supported;
 use crate::token::{Parts, check_time, split_parts};
-use spiffe_core::{BundleSource, JwtAuthority, JwtBundle};
+use spiffe_bundle::{BundleSource, JwtAuthority, JwtBundle};
 use spiffe_id::TrustDomain;
 use spiffe_json::{ReadError, read_json};
 use spiffe_token::{JwtAlg, JwtSvid, JwtSvidError};

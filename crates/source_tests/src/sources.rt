@@ -6,7 +6,7 @@ use identity_source::{
     IdentityReader, IdentitySource, KeptReader, Look, Missed, Receipt, Snapshot, SourceError,
     UpdateError, Window,
 };
-use spiffe_core::BundleSource;
+use spiffe_bundle::BundleSource;
 use spiffe_id::TrustDomain;
 use std::alloc::Global;
 use std::sync::Wait;

@@ -1,10 +1,4 @@
--- What the contracts of this crate cite.
-pub mod Entries
-pub mod JwtBundleError
-pub mod JwtAuthority
-pub mod KeySet
-pub mod JwtBundle
-pub mod JwtBundleSet
+-- What the contracts of this crate's items cite, of the crates that they stand in.
 pub use Rattle.spiffe_id.specs.Path
 pub use Rattle.spiffe_id.specs.Rules
 pub use Rattle.spiffe_id.specs.Scheme
@@ -12,6 +6,12 @@ pub use Rattle.spiffe_id.specs.SpiffeId
 pub use Rattle.spiffe_id.specs.SpiffeIdError
 pub use Rattle.spiffe_id.specs.TrustDomain
 pub use Rattle.spiffe_json.specs.Json
+pub use Rattle.spiffe_bundle.specs.Entries
+pub use Rattle.spiffe_bundle.specs.JwtBundleError
+pub use Rattle.spiffe_bundle.specs.JwtAuthority
+pub use Rattle.spiffe_bundle.specs.KeySet
+pub use Rattle.spiffe_bundle.specs.JwtBundle
+pub use Rattle.spiffe_bundle.specs.JwtBundleSet
 pub use Rattle.spiffe_token.specs.Claims
 pub use Rattle.spiffe_token.specs.JwtAlg
 pub use Rattle.spiffe_token.specs.JwtSvid

@@ -1,5 +1,7 @@
-//! SPIFFE identifiers, tokens, JWT authorities and trust bundles as they pass between workloads: parsed once,
+//! SPIFFE identifiers, tokens, JWT authorities, trust bundles and the Broker header under one name: parsed once,
 //! kept in canonical form, and shared between threads. It ports a part of the crate `spiffe`, and is offered under the licence Apache-2.0.
+//!
+//! It has no item of its own, and no library of this repository stands on it: each lists the crate whose items it uses.
 //!
 //! ```text
 //! let domain = TrustDomain::new(alloc, "example.org")?;
@@ -12,25 +14,12 @@
 //! ```
 #![tactic(auto)]
 
-mod bundle_source;
-mod bundles;
-mod error;
-mod jwt_authorities;
-mod jwt_authority;
-mod jwt_bundle;
-mod jwt_bundle_set;
-mod threads;
-
 pub use broker_header::{
     CallError, InterceptorFn, Metadata, MetadataError, SecurityHeader, Status,
 };
-pub use bundle_source::BundleSource;
-pub use bundles::Bundles;
-pub use error::JwtBundleError;
-pub use jwt_authorities::JwtAuthorities;
-pub use jwt_authority::JwtAuthority;
-pub use jwt_bundle::JwtBundle;
-pub use jwt_bundle_set::JwtBundleSet;
+pub use spiffe_bundle::{
+    BundleSource, Bundles, JwtAuthorities, JwtAuthority, JwtBundle, JwtBundleError, JwtBundleSet,
+};
 pub use spiffe_id::{
     DEFAULT_SVID, SPIFFE_SCHEME, SPIFFE_SCHEME_PREFIX, SPIFFE_SOCKET_ENV, SpiffeId, SpiffeIdError,
     TrustDomain, have_same_text, reread_id, reread_trust_domain, reread_trust_domain_id,

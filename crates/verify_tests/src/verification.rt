@@ -6,7 +6,7 @@ use base64_alphabets::Base64UrlUnpadded;
 use base64ct::Encoding;
 use identity_verify::{DigestBackend, VerifyError, parse_and_validate};
 use sha2::{Digest, Sha256};
-use spiffe_core::{JwtBundle, JwtBundleSet};
+use spiffe_bundle::{JwtBundle, JwtBundleSet};
 use spiffe_id::TrustDomain;
 use spiffe_token::JwtSvid;
 use std::alloc::Global;
@@ -191,7 +191,7 @@ fn set_of(rt: &impl Abort, alloc: Global, domain: &str, key: &str) -> JwtBundleS
 
 // The key without blanks and with its members in ascending order, as an authority has it.
 fn canonical(rt: &impl Abort, alloc: Global, key: &str) -> String {
-    let bytes = match spiffe_core::JwtAuthority::from_jwk_json(alloc, key.as_bytes()) {
+    let bytes = match spiffe_bundle::JwtAuthority::from_jwk_json(alloc, key.as_bytes()) {
         Ok(authority) => Vec::from_slice(alloc, authority.jwk_json()),
         Err(_) => Vec::from_slice(alloc, b""),
     };

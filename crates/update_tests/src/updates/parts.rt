@@ -2,7 +2,8 @@
 use crate::checks::{good, same};
 use identity_update::{BundleParts, EntryParts, Update, UpdateError};
 use pkcs8::PrivateKeyInfoOwned;
-use spiffe_core::{JsonError, JwtBundleError};
+use spiffe_bundle::JwtBundleError;
+use spiffe_json::JsonError;
 use spiffe_id::{SpiffeId, TrustDomain};
 use spki::SubjectPublicKeyInfoOwned;
 use std::alloc::Global;

@@ -1,6 +1,6 @@
 use Rattle.std.proofs.Common.{◌≡◌, Ok, subst}
 use Rattle.serde_json.specs.View.{view}
-use Rattle.spiffe_core.specs.KeySet.{by_key_id, key_set_of}
+use Rattle.spiffe_bundle.specs.KeySet.{by_key_id, key_set_of}
 use Rattle.bundle_document.specs.Document.{Document, IsReadable, keys_listed}
 use Rattle.bundle_document.proofs.ValueLemmas.{key_set_accepted}
 use Rattle.bundle_document.proofs.document.BundleDocument.jwks.Goals as goal

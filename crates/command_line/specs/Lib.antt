@@ -1,0 +1,4 @@
+-- What the contracts of this crate cite.
+pub mod Status
+pub mod Outcome
+pub mod Words

@@ -1,6 +1,0 @@
-use Rattle.std.proofs.Common.{◌≡◌, ◌++◌, drop}
-use Rattle.identity_commands.specs.Printed.{printed}
-use Rattle.identity_commands.proofs.printed.push_printed.Given as goal
-
-abbrev pub invariant-loop-byte : goal.invariant-loop-byte
-invariant-loop-byte l = l.out.items ++ printed (drop l.byte-index l.text) ≡ l.fn.out.items ++ printed l.fn.text

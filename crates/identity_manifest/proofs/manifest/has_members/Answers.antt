@@ -1,6 +1,0 @@
-use Rattle.std.proofs.Common.{ℕ, ap, nat_eq}
-use Rattle.identity_manifest.proofs.Members.{count_is_length}
-use Rattle.identity_manifest.proofs.manifest.has_members.Goals as goal
-
-pub returns-in-Some : goal.returns-in-Some
-returns-in-Some c = rw (← c.in-Some.ensures, count_is_length) (ap (λ (n : ℕ). nat_eq n c.args.count) c.len.ensures.len)

@@ -1,6 +1,0 @@
-use Rattle.std.proofs.Common.{◌≡◌, ◌++◌, take}
-use Rattle.identity_watch.specs.WatchText.{answers_at}
-use Rattle.identity_watch.proofs.lines.push_answers.Given as goal
-
-abbrev pub invariant-loop-place : goal.invariant-loop-place
-invariant-loop-place l = l.text.items ≡ l.fn.text.items ++ answers_at l.states (take l.place l.queries) (take l.place l.seen)

@@ -1,6 +1,0 @@
-use Rattle.std.proofs.Common.{◌≡◌, ◌++◌, map}
-use Rattle.identity_watch.specs.WatchText.{workers_at}
-use Rattle.identity_watch.proofs.lines.push_workers.Given as goal
-
-abbrev pub invariant-loop-number : goal.invariant-loop-number
-invariant-loop-number l = l.text.items ≡ l.fn.text.items ++ workers_at l.states l.queries (map (λ revisions. revisions.items) l.seen) l.number

@@ -1,7 +1,0 @@
-//! A law of the command line.
-ghost use Rattle.packing_program.specs.Words.{WordsAreOneOrder};
-
-/// The words of a command line are one order at most.
-pub fn words_are_one_order()
-    ensures { WordsAreOneOrder }
-{}

@@ -1,8 +1,0 @@
-//! `identity_tool`, run by the gate on a script that four workers answer.
-#![tactic(auto)]
-
-use std::process::ExitCode;
-
-fn main(rt: HostRuntime) -> ExitCode {
-    identity_program::run_program(&rt, &rt)
-}
