@@ -2,7 +2,6 @@ pub mod VerifyError
 pub mod Decoding
 pub mod JoseHeader
 pub mod TokenRules
-pub mod Views
 pub mod Authority
 pub mod Verdict
 pub mod DigestBackend

@@ -7,7 +7,7 @@ use Rattle.spiffe_json.specs.declared.error.JsonError.{JsonError}
 use Rattle.spiffe_json.specs.declared.error.JsonError.TheVariants.{Syntax, Number, Keys, Shape}
 use Rattle.spiffe_token.specs.declared.error.JwtSvidError.TheVariants.{InvalidJwtFormat, InvalidBase64, InvalidJson}
 use Rattle.spiffe_token.specs.JwtSvid.{Svid, svid_of}
-use Rattle.spiffe_token.specs.Parts.{cut}
+use Rattle.spiffe_token.specs.Parts.{Parts, parts_of}
 use Rattle.token_time.specs.Quiet.{quiet, not_before_of}
 use Rattle.identity_verify.specs.declared.error.VerifyError.{VerifyError}
 use Rattle.identity_verify.specs.declared.error.VerifyError.TheVariants.{InvalidVerificationTime, Token, InvalidNotBefore}
@@ -18,19 +18,6 @@ use Rattle.identity_verify.specs.JoseHeader.{header_rule}
 -- from 1970 to the end of the year 9999, in nanoseconds
 abbrev pub time_rule : {E : Type 0} → ℤ → Result (Unit {0}) (VerifyError E)
 time_rule now = if int_le (pos 0) now && int_le now (pos 253402300799999999999) then Ok tt else Err InvalidVerificationTime
-
--- the parts of a token (RFC 7515, section 3.1) as they are written
-pub record Parts : Type 0 where
-  pub header : List ℕ
-  pub claims : List ℕ
-  pub signature : List ℕ
-
-abbrev pub unless_dotted : List ℕ → List ℕ × List ℕ → Option Parts
-unless_dotted header p = if is_some (cut p.1) then None else Some record { header = header; claims = p.0; signature = p.1 }
-
--- the parts of a text with exactly two dots
-abbrev pub parts_of : List ℕ → Option Parts
-parts_of text = option_and_then (λ p. option_and_then (unless_dotted p.0) (cut p.1)) (cut text)
 
 -- what was signed: the bytes before the second dot
 abbrev pub message_of : List ℕ → Parts → List ℕ

@@ -16,7 +16,8 @@ use Rattle.identity_verify.specs.declared.backend.Signature.TheVariants.{Good, B
 use Rattle.identity_verify.specs.declared.error.VerifyError.{VerifyError}
 use Rattle.identity_verify.specs.declared.error.VerifyError.TheVariants.{BundleSourceError, BundleNotFound, AuthorityNotFound, InvalidToken, OutOfMemory}
 use Rattle.identity_verify.specs.declared.error.JwtVerificationErrorKind.TheVariants.{Expired, NotYetValid, AudienceMismatch, InvalidSignature, Other}
-use Rattle.identity_verify.specs.TokenRules.{Parts, time_rule, text_rule, parts_rules, message_of}
+use Rattle.spiffe_token.specs.Parts.{Parts}
+use Rattle.identity_verify.specs.TokenRules.{time_rule, text_rule, parts_rules, message_of}
 use Rattle.identity_verify.specs.Authority.{Rule, supported_rule, authority_rules}
 
 -- a rule that breaks, or the key ID of which there is no authority

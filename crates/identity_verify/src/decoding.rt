@@ -4,10 +4,8 @@ ghost use Rattle.identity_verify.specs.Decoding.{IsDecoding, decode_part};
 
 use base64_alphabets::Base64UrlUnpadded;
 use base64ct::{Encoding, Error};
+use spiffe_token::MAX_PART_CHARACTERS;
 use std::alloc::{AllocError, Global};
-
-// As many characters as stand for 65,535 bytes or fewer.
-const MAX_PART_CHARACTERS: usize = 87_381;
 
 /// The bytes that a text of base64url without padding stands for, if it stands for some.
 pub(crate) fn decode(alloc: Global, text: &str) -> Result<Option<Vec<u8>>, AllocError>

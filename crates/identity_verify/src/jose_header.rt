@@ -4,7 +4,7 @@ ghost use Rattle.std.specs.List.{list_all};
 ghost use Rattle.serde_json.specs.Find.{get};
 ghost use Rattle.serde_json.specs.View.{view};
 ghost use Rattle.spiffe_json.specs.Json.{whole_json};
-ghost use Rattle.spiffe_token.specs.Header.{is_once, optional_text};
+ghost use Rattle.spiffe_token.specs.Header.{optional_text};
 ghost use Rattle.spiffe_token.specs.Members.{member_of, members_of};
 ghost use Rattle.identity_verify.specs.VerifyError.{IsRefusal};
 ghost use Rattle.identity_verify.specs.JoseHeader.{is_header_name, has_few_members, is_absent_or_text, has_header_values, header_json, header_shape, header_rule};
@@ -12,7 +12,7 @@ ghost use Rattle.identity_verify.specs.JoseHeader.{is_header_name, has_few_membe
 use crate::error::VerifyError;
 use serde_json::Value;
 use spiffe_json::{JsonError, ReadError, read_json};
-use spiffe_token::{Member, top_members};
+use spiffe_token::{Member, is_once, top_members};
 use std::alloc::Global;
 
 fn is_header_name(member: &Member) -> bool
@@ -30,12 +30,6 @@ fn are_header_names(members: &[Member]) -> bool
         }
     }
     true
-}
-
-fn is_once(members: &[Member], name: &str) -> bool
-    ensures { result ≡ is_once (map member_of members.now) name.now }
-{
-    members.iter().filter(|m| m.name.as_str() == name).count() < 2
 }
 
 fn has_few_members<E>(alloc: Global, header: &[u8]) -> Result<bool, VerifyError<E>>

@@ -1,30 +1,21 @@
 //! The rules of a token's text.
 ghost use Rattle.std.specs.Prelude.{◌≡◌, ◌≤◌, ℕ, List, Option, Ok, Err, option_map, is_some, length, IfOk, IfErr};
 ghost use Rattle.spiffe_json.specs.Json.{json_of};
-ghost use Rattle.spiffe_token.specs.Parts.{cut};
+ghost use Rattle.spiffe_token.specs.Parts.{parts_value};
 ghost use Rattle.identity_verify.specs.VerifyError.{IsRefusal};
 ghost use Rattle.identity_verify.specs.Decoding.{IsDecoding};
-ghost use Rattle.identity_verify.specs.TokenRules.{time_rule, parts_of, message_of, is_syntax, claims_rule, json_rules, parts_rules, octets_of};
-ghost use Rattle.identity_verify.specs.Views.{parts_value};
+ghost use Rattle.identity_verify.specs.TokenRules.{time_rule, message_of, is_syntax, claims_rule, json_rules, parts_rules, octets_of};
 
 use crate::decoding::decode_part;
 use crate::error::VerifyError;
 use crate::jose_header::check_header;
 use spiffe_json::{JsonError, ReadError, read_json};
-use spiffe_token::{JwtSvid, JwtSvidError};
+use spiffe_token::{JwtSvid, JwtSvidError, Parts};
 use std::alloc::{AllocError, Global};
 use token_time::{not_before, quiet};
 
 // The end of the year 9999, in nanoseconds.
 const MAX_TIME: i128 = 253_402_300_799_999_999_999;
-
-/// The parts of a token as they are written.
-#[derive(Drop)]
-pub(crate) struct Parts<'t> {
-    pub(crate) header: &'t str,
-    pub(crate) claims: &'t str,
-    pub(crate) signature: &'t str,
-}
 
 /// Whether a token can be judged at this time.
 pub(crate) fn check_time<E>(now: i128) -> Result<(), VerifyError<E>>
@@ -36,66 +27,42 @@ pub(crate) fn check_time<E>(now: i128) -> Result<(), VerifyError<E>>
     Ok(())
 }
 
-fn cut(text: &str) -> Option<(&str, &str)>
-    ensures { option_map (λ p. (p.0.now, p.1.now)) result ≡ cut text.now }
+/// What was signed: the token's bytes before the second dot.
+pub(crate) fn message_of<'t>(token: &'t str, parts: &Parts<'_>) -> &'t [u8]
+    ensures { result.now ≡ message_of token.now (parts_value parts.now) }
 {
-    text.split_once('.')
+    let len = token.len().saturating_sub(parts.signature.len());
+    &token.as_bytes()[..len.saturating_sub(1)]
 }
 
-/// The parts of a text with two dots.
-pub(crate) fn split_parts(token: &str) -> Option<Parts<'_>>
-    ensures { option_map parts_value result ≡ parts_of token.now }
+fn octets_of(alloc: Global, parts: &Parts<'_>) -> Result<Option<(Vec<u8>, Vec<u8>)>, AllocError>
+    ensures { (decode : List ℕ → Option (List ℕ)) → IsDecoding decode
+        → IfOk result (λ o. option_map (λ p. (p.0.items, p.1.items)) o ≡ octets_of decode (parts_value parts.now)) }
 {
-    let (header, rest) = cut(token)?;
-    let (claims, signature) = cut(rest)?;
-    match cut(signature) {
-        Some(_) => None,
-        None => Some(Parts {
-            header,
-            claims,
-            signature,
-        }),
-    }
+    let Some(header) = decode_part(alloc, parts.header)? else {
+        return Ok(None);
+    };
+    let Some(claims) = decode_part(alloc, parts.claims)? else {
+        return Ok(None);
+    };
+    Ok(Some((header, claims)))
 }
 
-impl Parts<'_> {
-    /// What was signed: the token's bytes before the second dot.
-    pub(crate) fn message<'t>(&self, token: &'t str) -> &'t [u8]
-        ensures { result.now ≡ message_of token.now (parts_value self.now) }
-    {
-        let len = token.len().saturating_sub(self.signature.len());
-        &token.as_bytes()[..len.saturating_sub(1)]
-    }
-
-    fn octets(&self, alloc: Global) -> Result<Option<(Vec<u8>, Vec<u8>)>, AllocError>
-        ensures { (decode : List ℕ → Option (List ℕ)) → IsDecoding decode
-            → IfOk result (λ o. option_map (λ p. (p.0.items, p.1.items)) o ≡ octets_of decode (parts_value self.now)) }
-    {
-        let Some(header) = decode_part(alloc, self.header)? else {
-            return Ok(None);
-        };
-        let Some(claims) = decode_part(alloc, self.claims)? else {
-            return Ok(None);
-        };
-        Ok(Some((header, claims)))
-    }
-
-    /// The token, and the time that it is valid from.
-    #[tactic(auto, unfolding(crate::specs::TokenRules::parts_rules))]
-    pub(crate) fn read<E: Drop>(
-        &self,
-        alloc: Global,
-        token: &str,
-    ) -> Result<(JwtSvid, Option<i128>), VerifyError<E>>
-        ensures ok { (decode : List ℕ → Option (List ℕ)) → IsDecoding decode
-            → IfOk result (λ p. parts_rules {E = E} decode token.now (parts_value self.now) ≡ Ok p) }
-        ensures err { (decode : List ℕ → Option (List ℕ)) → IsDecoding decode
-            → IfErr result (λ e. IsRefusal (parts_rules decode token.now (parts_value self.now)) e) }
-    {
-        match self.octets(alloc)? {
-            Some((header, claims)) => read_json_parts(alloc, token, &header, &claims),
-            None => Err(VerifyError::Token(JwtSvidError::InvalidBase64)),
-        }
+/// The token, and the time that it is valid from.
+#[tactic(auto, unfolding(crate::specs::TokenRules::parts_rules))]
+pub(crate) fn read_parts<E: Drop>(
+    alloc: Global,
+    token: &str,
+    parts: &Parts<'_>,
+) -> Result<(JwtSvid, Option<i128>), VerifyError<E>>
+    ensures ok { (decode : List ℕ → Option (List ℕ)) → IsDecoding decode
+        → IfOk result (λ p. parts_rules {E = E} decode token.now (parts_value parts.now) ≡ Ok p) }
+    ensures err { (decode : List ℕ → Option (List ℕ)) → IsDecoding decode
+        → IfErr result (λ e. IsRefusal (parts_rules decode token.now (parts_value parts.now)) e) }
+{
+    match octets_of(alloc, parts)? {
+        Some((header, claims)) => read_json_parts(alloc, token, &header, &claims),
+        None => Err(VerifyError::Token(JwtSvidError::InvalidBase64)),
     }
 }
 

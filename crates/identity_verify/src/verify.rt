@@ -4,18 +4,18 @@ ghost use Rattle.std.specs.Arc.{arc_value};
 ghost use Rattle.identity_verify.specs.VerifyError.{IsRefusal};
 ghost use Rattle.identity_verify.specs.Decoding.{IsDecoding};
 ghost use Rattle.identity_verify.specs.Verdict.{IsVerifyRefusal, bundle_rule, key_id_rule, jwk_rules, judged, signature_rule, is_expected, has_audience, audience_rule, begin_rule, window_rule, claims_rules, signed_rules, authority_for, parts_verdict, verdict};
-ghost use Rattle.identity_verify.specs.Views.{parts_value};
+ghost use Rattle.spiffe_token.specs.Parts.{parts_value};
 
 use crate::backend::{Backend, Signature};
 use crate::decoding::decode;
 use crate::error::{JwtVerificationError, JwtVerificationErrorKind, VerifyError};
 use crate::key_parts::check_authority;
 use crate::key_use::check_supported;
-use crate::token::{Parts, check_time, split_parts};
+use crate::token::{check_time, message_of, read_parts};
 use spiffe_bundle::{BundleSource, JwtAuthority, JwtBundle};
 use spiffe_id::TrustDomain;
 use spiffe_json::{ReadError, read_json};
-use spiffe_token::{JwtAlg, JwtSvid, JwtSvidError};
+use spiffe_token::{JwtAlg, JwtSvid, JwtSvidError, Parts, split_parts};
 use std::alloc::Global;
 use std::sync::Arc;
 
@@ -232,9 +232,9 @@ where
         → IfErr result (λ e. IsVerifyRefusal
         (parts_verdict decode (B.answer bundles.now) (K.answer backend.now) token.now (map string_bytes expected_audience.now) now (parts_value parts.now)) e) }
 {
-    let (svid, begins) = parts.read(alloc, token)?;
+    let (svid, begins) = read_parts(alloc, token, parts)?;
     let authority = authority_for(alloc, bundles, &svid)?;
-    let message = parts.message(token);
+    let message = message_of(token, parts);
     check_signed(
         alloc,
         backend,

@@ -15,7 +15,7 @@ use Rattle.spiffe_token.specs.JwtSvidError.{subject_error}
 use Rattle.spiffe_token.specs.JwtAlg.{alg_name, alg_eq, alg_equiv}
 use Rattle.spiffe_token.specs.Header.{Header, header_of, key_of}
 use Rattle.spiffe_token.specs.Claims.{ClaimsSet, claims_of, is_expiry, claims_eq, claims_equiv}
-use Rattle.spiffe_token.specs.Parts.{parts_of, IsPart, IsNoPart}
+use Rattle.spiffe_token.specs.Parts.{Parts, parts_of, IsPart, IsNoPart}
 
 pub record Svid : Type 0 where
   pub token : List ℕ
@@ -42,10 +42,10 @@ unfoldable pub svid_of : List ℕ → List ℕ → List ℕ → Result Svid JwtS
 svid_of token header claims = then_ok (header_of header) (λ h. then_ok (claims_of claims) (svid_from token h))
 
 -- the answer to a token whose header and claims are written so
-abbrev pub AnswersParts : List ℕ → Result Svid JwtSvidError → List ℕ × List ℕ → Type 0
+abbrev pub AnswersParts : List ℕ → Result Svid JwtSvidError → Parts → Type 0
 AnswersParts token answer p =
-    ((IsNoPart p.0 ⊎ IsNoPart p.1) × (answer ≡ Err InvalidBase64))
-    ⊎ ((header : List ℕ) × (claims : List ℕ) × IsPart p.0 header × IsPart p.1 claims × (answer ≡ svid_of token header claims))
+    ((IsNoPart p.header ⊎ IsNoPart p.claims) × (answer ≡ Err InvalidBase64))
+    ⊎ ((header : List ℕ) × (claims : List ℕ) × IsPart p.header header × IsPart p.claims claims × (answer ≡ svid_of token header claims))
 
 -- the answer to a token
 abbrev pub Answers : List ℕ → Result Svid JwtSvidError → Type 0

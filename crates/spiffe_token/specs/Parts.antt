@@ -5,6 +5,7 @@ use Rattle.base64_alphabet.specs.Group.{High}
 use Rattle.base64_alphabet.specs.Encoding.{encoding_of}
 use Rattle.base64_alphabets.specs.Url.{url}
 use Rattle.base64ct.specs.Canonical.{IsBytes, IsNoEncoding}
+use Rattle.spiffe_token.specs.declared.parts.Parts as program
 
 abbrev pub is_dot : ℕ → Bool
 is_dot b = b == 46
@@ -13,11 +14,20 @@ is_dot b = b == 46
 abbrev pub cut : List ℕ → Option (List ℕ × List ℕ)
 cut text = if nat_lt (position_or_len is_dot text) (length text) then Some (before_first is_dot text, after_first is_dot text) else None
 
-abbrev pub unless_dotted : List ℕ → List ℕ × List ℕ → Option (List ℕ × List ℕ)
-unless_dotted header p = if is_some (cut p.1) then None else Some (header, p.0)
+-- the parts as they are written
+pub record Parts : Type 0 where
+  pub header : List ℕ
+  pub claims : List ℕ
+  pub signature : List ℕ
 
--- the header and the claims as they are written, where the text has exactly two dots
-abbrev pub parts_of : List ℕ → Option (List ℕ × List ℕ)
+abbrev pub parts_value : program.Parts → Parts
+parts_value p = record { header = p.header.now; claims = p.claims.now; signature = p.signature.now }
+
+abbrev pub unless_dotted : List ℕ → List ℕ × List ℕ → Option Parts
+unless_dotted header p = if is_some (cut p.1) then None else Some record { header = header; claims = p.0; signature = p.1 }
+
+-- the parts of a text with exactly two dots
+abbrev pub parts_of : List ℕ → Option Parts
 parts_of text = option_and_then (λ p. option_and_then (unless_dotted p.0) (cut p.1)) (cut text)
 
 -- bytes in the alphabet for URLs and file names, without padding (RFC 7515, section 2)

@@ -7,11 +7,11 @@ ghost use Rattle.serde_json.specs.View.{view};
 ghost use Rattle.spiffe_id.specs.Rules.{map_ok};
 ghost use Rattle.spiffe_token.specs.JwtSvidError.{IsRefusal};
 ghost use Rattle.spiffe_token.specs.Members.{member_of, members_of};
-ghost use Rattle.spiffe_token.specs.Header.{is_once, stand_once, optional_text, header_in, header_shape, typ_check, key_of};
+ghost use Rattle.spiffe_token.specs.Header.{stand_once, optional_text, header_in, header_shape, typ_check, key_of};
 
 use crate::error::JwtSvidError;
 use crate::jwt_alg::JwtAlg;
-use crate::members::{Member, top_members};
+use crate::members::{is_once, top_members};
 use serde_json::Value;
 use spiffe_json::JsonError;
 use std::alloc::Global;
@@ -22,18 +22,6 @@ pub(crate) struct Header<'v> {
     alg: &'v str,
     typ: Option<&'v str>,
     kid: Option<&'v str>,
-}
-
-fn count_named(members: &[Member], name: &str) -> usize
-    ensures { result ≡ count_by (λ m. pointwise nat_eq (string_bytes m.name) name.now) members.now }
-{
-    members.iter().filter(|m| m.name.as_str() == name).count()
-}
-
-fn is_once(members: &[Member], name: &str) -> bool
-    ensures { result ≡ is_once (map member_of members.now) name.now }
-{
-    count_named(members, name) < 2
 }
 
 // Whether the text is an object in which each of the names stands at most once.

@@ -61,10 +61,10 @@ impl JwtSvid {
         ensures ok { IfOk result (λ s. Answers token.now (Ok s)) }
         ensures err { IfErr result (λ e. Answers token.now (Err e) ⊎ (e ≡ JwtSvidError.OutOfMemory)) }
     {
-        let Some((header, claims)) = split_parts(token) else {
+        let Some(parts) = split_parts(token) else {
             return Err(JwtSvidError::InvalidJwtFormat);
         };
-        let (header, claims) = decode_parts(alloc, header, claims)?;
+        let (header, claims) = decode_parts(alloc, parts.header, parts.claims)?;
         JwtSvid::from_parts(alloc, token, &header, &claims)
     }
 

@@ -29,4 +29,5 @@ pub use error::JwtSvidError;
 pub use jwt_alg::JwtAlg;
 pub use jwt_svid::JwtSvid;
 pub use laws::token_has_one_answer;
-pub use members::{Member, top_members};
+pub use members::{Member, is_once, top_members};
+pub use parts::{MAX_PART_CHARACTERS, Parts, split_parts};

@@ -1,5 +1,7 @@
 //! The members of the one object that a JSON text is.
-ghost use Rattle.std.specs.Prelude.{◌≡◌, length, map, option_map, IfOk, IfErr, string_bytes};
+ghost use Rattle.std.specs.Prelude.{◌≡◌, length, map, option_map, IfOk, IfErr, count_by, nat_eq, string_bytes};
+ghost use Rattle.std.specs.Cmp.Lexicographic.{pointwise};
+ghost use Rattle.spiffe_token.specs.Header.{is_once};
 ghost use Rattle.spiffe_token.specs.RawMembers.{raw_of};
 ghost use Rattle.spiffe_token.specs.Members.{text_of, named, all_named, members_of, member_of};
 
@@ -33,6 +35,19 @@ pub fn top_members(alloc: Global, json: &[u8]) -> Result<Option<Vec<Member>>, Jw
         Some(raws) => Ok(all_named(alloc, &raws)?),
         None => Ok(None),
     }
+}
+
+/// Whether a name stands at most once among the members of an object.
+pub fn is_once(members: &[Member], name: &str) -> bool
+    ensures { result ≡ is_once (map member_of members.now) name.now }
+{
+    count_named(members, name) < 2
+}
+
+fn count_named(members: &[Member], name: &str) -> usize
+    ensures { result ≡ count_by (λ m. pointwise nat_eq (string_bytes m.name) name.now) members.now }
+{
+    members.iter().filter(|m| m.name.as_str() == name).count()
 }
 
 fn all_named(alloc: Global, raws: &[RawMember<'_>]) -> Result<Option<Vec<Member>>, AllocError>

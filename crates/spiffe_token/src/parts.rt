@@ -1,14 +1,27 @@
 //! The parts of a token's text.
 ghost use Rattle.std.specs.Prelude.{◌≡◌, ◌⊎◌, option_map, IfOk, IfErr};
-ghost use Rattle.spiffe_token.specs.Parts.{cut, parts_of, IsPart, IsNoPart};
+ghost use Rattle.spiffe_token.specs.Parts.{cut, parts_of, parts_value, IsPart, IsNoPart};
 
 use crate::error::JwtSvidError;
 use base64_alphabets::Base64UrlUnpadded;
 use base64ct::{Encoding, Error};
 use std::alloc::Global;
 
-// As many characters as stand for 65,535 bytes or fewer.
-const MAX_PART_CHARACTERS: usize = 87_381;
+/// The most characters of a header or of claims: as many as stand for 65,535 bytes or fewer.
+pub const MAX_PART_CHARACTERS: usize = 87_381;
+
+/// The parts of a token in the compact serialization, as they are written (RFC 7515, section 3.1).
+#[derive(Drop)]
+pub struct Parts<'t> {
+    /// The header in base64url.
+    pub header: &'t str,
+
+    /// The claims in base64url.
+    pub claims: &'t str,
+
+    /// The signature in base64url. It may be empty.
+    pub signature: &'t str,
+}
 
 fn cut(text: &str) -> Option<(&str, &str)>
     ensures { option_map (λ p. (p.0.now, p.1.now)) result ≡ cut text.now }
@@ -16,15 +29,19 @@ fn cut(text: &str) -> Option<(&str, &str)>
     text.split_once('.')
 }
 
-// The header and the claims as they are written.
-pub(crate) fn split_parts(token: &str) -> Option<(&str, &str)>
-    ensures { option_map (λ p. (p.0.now, p.1.now)) result ≡ parts_of token.now }
+/// The parts of a token, none where the text doesn't have exactly two dots.
+pub fn split_parts(token: &str) -> Option<Parts<'_>>
+    ensures { option_map parts_value result ≡ parts_of token.now }
 {
     let (header, rest) = cut(token)?;
     let (claims, signature) = cut(rest)?;
     match cut(signature) {
         Some(_) => None,
-        None => Some((header, claims)),
+        None => Some(Parts {
+            header,
+            claims,
+            signature,
+        }),
     }
 }
 

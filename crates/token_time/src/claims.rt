@@ -2,11 +2,10 @@
 ghost use Rattle.std.specs.Prelude.{◌≡◌, ◌<◌, take, drop, map, count_by, nat_eq, codes, string_bytes, option_map, Some, IfOk, IfErr};
 ghost use Rattle.std.specs.List.{find};
 ghost use Rattle.spiffe_token.specs.Members.{member_of, members_of};
-ghost use Rattle.spiffe_token.specs.Header.{is_once};
 ghost use Rattle.token_time.specs.Quiet.{is_not_before, begins_number, piece, is_time, quiet_from, quiet, time_at, not_before_in, not_before_of};
 
 use crate::time::nanoseconds;
-use spiffe_token::{JwtSvidError, Member, top_members};
+use spiffe_token::{JwtSvidError, Member, is_once, top_members};
 use std::alloc::{AllocError, Global};
 
 const NOT_BEFORE: &str = "nbf";
@@ -86,12 +85,6 @@ pub fn quiet(alloc: Global, claims: &[u8]) -> Result<Vec<u8>, JwtSvidError>
     }
 }
 
-fn is_once(members: &[Member]) -> bool
-    ensures { result ≡ is_once (map member_of members.now) (codes "nbf") }
-{
-    members.iter().filter(|m| is_not_before(m)).count() < 2
-}
-
 fn first_place(members: &[Member]) -> Option<&Member>
     ensures { option_map (λ m. member_of m.now) result ≡ find is_not_before (map member_of members.now) }
 {
@@ -106,7 +99,7 @@ fn first_place(members: &[Member]) -> Option<&Member>
 fn not_before_in(text: &[u8], members: &[Member]) -> Option<Option<i128>>
     ensures { result ≡ not_before_in text.now (Some (map member_of members.now)) }
 {
-    if !is_once(members) {
+    if !is_once(members, "nbf") {
         return None;
     }
     match first_place(members) {
