@@ -40,16 +40,6 @@ fn domain(alloc: Global, number: usize, text: &str) -> Result<TrustDomain, Updat
     }
 }
 
-fn copy_of(alloc: Global, domain: &TrustDomain) -> Result<TrustDomain, UpdateError>
-    ensures ok { IfOk result (λ d. d ≡ domain.now) }
-    ensures err { IfErr result (λ e. e ≡ UpdateError.OutOfMemory) }
-{
-    match domain.try_clone(alloc) {
-        Ok(copy) => Ok(copy),
-        Err(_) => Err(UpdateError::OutOfMemory),
-    }
-}
-
 fn key_set(
     alloc: Global,
     number: usize,
@@ -82,7 +72,7 @@ fn check_bundle(
     ensures err { IfErr result (IsRefusal (bundle_check number (written_bundle bundle.now))) }
 {
     let trust_domain = domain(alloc, number, bundle.text.as_str())?;
-    let copy = copy_of(alloc, &trust_domain)?;
+    let copy = trust_domain.copy(alloc)?;
     let read = key_set(alloc, number, copy, bundle.jwks.as_bytes())?;
     let jwks = Vec::from_slice(alloc, bundle.jwks.as_bytes())?;
     Ok((BundleParts { trust_domain, jwks }, read))
@@ -125,7 +115,7 @@ fn own_key_set(alloc: Global, number: usize, bundle: &BundleParts) -> Result<Jwt
     ensures err { IfErr result (IsRefusal (map_refusal (Authorities number) (key_set_of bundle.now.jwks.items))) }
 {
     let _ = bundle.trust_domain.as_str();
-    let domain = copy_of(alloc, &bundle.trust_domain)?;
+    let domain = bundle.trust_domain.copy(alloc)?;
     key_set(alloc, number, domain, &bundle.jwks)
 }
 

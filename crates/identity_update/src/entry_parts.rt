@@ -25,16 +25,6 @@ pub struct EntryParts {
     pub public_key: SubjectPublicKeyInfoOwned,
 }
 
-fn copy_of(alloc: Global, id: &SpiffeId) -> Result<SpiffeId, UpdateError>
-    ensures ok { IfOk result (λ copy. copy ≡ id.now) }
-    ensures err { IfErr result (λ e. e ≡ UpdateError.OutOfMemory) }
-{
-    match id.try_clone(alloc) {
-        Ok(copy) => Ok(copy),
-        Err(_) => Err(UpdateError::OutOfMemory),
-    }
-}
-
 fn borrow_entry<'a>(alloc: Global, entry: &'a EntryParts) -> Result<CheckedEntry<'a>, UpdateError>
     ensures ok { IfOk result (λ borrowed. checked_entry borrowed ≡ plain_entry entry.now) }
     ensures id { HasCanonicalId (plain_entry entry.now) }
@@ -43,7 +33,7 @@ fn borrow_entry<'a>(alloc: Global, entry: &'a EntryParts) -> Result<CheckedEntry
     let _ = entry.id.trust_domain_name();
     let _ = entry.id.path();
     Ok(CheckedEntry {
-        id: copy_of(alloc, &entry.id)?,
+        id: entry.id.copy(alloc)?,
         private_key: entry.private_key.owned_to_ref(),
         public_key: entry.public_key.owned_to_ref(),
     })

@@ -113,16 +113,6 @@ fn check_signature<E: Drop, K: Backend>(
     }
 }
 
-fn copy_domain<E>(alloc: Global, domain: &TrustDomain) -> Result<TrustDomain, VerifyError<E>>
-    ensures ok { IfOk result (λ d. d ≡ domain.now) }
-    ensures err { IfErr result (λ e. e ≡ VerifyError.OutOfMemory) }
-{
-    match domain.try_clone(alloc) {
-        Ok(copy) => Ok(copy),
-        Err(_) => Err(VerifyError::OutOfMemory),
-    }
-}
-
 fn find_bundle<'b, B: BundleSource<Item = JwtBundle>>(
     alloc: Global,
     bundles: &'b B,
@@ -135,7 +125,7 @@ where
 {
     match bundles.bundle_for_trust_domain(domain) {
         Ok(Some(bundle)) => Ok(bundle),
-        Ok(None) => Err(VerifyError::BundleNotFound(copy_domain(alloc, domain)?)),
+        Ok(None) => Err(VerifyError::BundleNotFound(domain.copy(alloc)?)),
         Err(cause) => Err(VerifyError::BundleSourceError(cause)),
     }
 }

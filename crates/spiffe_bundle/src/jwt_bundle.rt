@@ -144,23 +144,13 @@ impl JwtBundle {
         ensures ok { IfOk result (λ b. b ≡ self.now) }
         ensures err { IfErr result (λ e. e ≡ JwtBundleError.OutOfMemory) }
     {
-        let trust_domain = copy_of(&self.trust_domain, alloc)?;
+        let trust_domain = self.trust_domain.copy(alloc)?;
         let jwt_authorities = self.jwt_authorities.clone()?;
         Ok(JwtBundle {
             alloc,
             trust_domain,
             jwt_authorities,
         })
-    }
-}
-
-pub(crate) fn copy_of(domain: &TrustDomain, alloc: Global) -> Result<TrustDomain, JwtBundleError>
-    ensures ok { IfOk result (λ d. d ≡ domain.now) }
-    ensures err { IfErr result (λ e. e ≡ JwtBundleError.OutOfMemory) }
-{
-    match domain.try_clone(alloc) {
-        Ok(copy) => Ok(copy),
-        Err(_) => Err(JwtBundleError::OutOfMemory),
     }
 }
 

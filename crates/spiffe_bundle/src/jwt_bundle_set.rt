@@ -8,7 +8,7 @@ ghost use Rattle.spiffe_bundle.specs.JwtBundleSet.{with_bundle, find_bundle, wit
 use crate::bundle_source::BundleSource;
 use crate::bundles::Bundles;
 use crate::error::JwtBundleError;
-use crate::jwt_bundle::{JwtBundle, copy_of};
+use crate::jwt_bundle::JwtBundle;
 use spiffe_id::TrustDomain;
 use std::alloc::Global;
 use std::collections::BTreeMap;
@@ -155,7 +155,7 @@ impl JwtBundleSet {
         ensures err { IfErr result (λ e. e ≡ JwtBundleError.OutOfMemory) }
         ensures kept { OnErr result (self.new ≡ self.old) }
     {
-        let domain = copy_of(bundle.trust_domain(), self.alloc)?;
+        let domain = bundle.trust_domain().copy(self.alloc)?;
         self.bundles.insert(domain, bundle)?;
         Ok(())
     }

@@ -16,7 +16,7 @@ use crate::error::SpiffeIdError;
 use crate::path::{joined, joined_fits, split_path, validate_path, validate_segments};
 use crate::scheme::strip_spiffe_scheme;
 use crate::trust_domain::{TrustDomain, validate_trust_domain};
-use std::alloc::Global;
+use std::alloc::{AllocError, Global};
 use std::cmp::Ordering;
 use std::fmt;
 use std::hash::{Hash, Hasher};
@@ -110,12 +110,19 @@ impl SpiffeId {
         self.trust_domain == *trust_domain
     }
 
-    /// A copy in memory of its own.
+    /// A copy in memory of its own, refused as [`SpiffeIdError::OutOfMemory`] alone.
     pub fn try_clone(&self, alloc: Global) -> Result<Self, SpiffeIdError>
         ensures ok { IfOk result (λ v. v ≡ self.now) }
         ensures err { IfErr result (λ e. e ≡ SpiffeIdError.OutOfMemory) }
     {
-        let trust_domain = self.trust_domain.try_clone(alloc)?;
+        Ok(self.copy(alloc)?)
+    }
+
+    /// The same copy for callers that have errors of their own: it is refused for want of memory alone.
+    pub fn copy(&self, alloc: Global) -> Result<Self, AllocError>
+        ensures { IfOk result (λ v. v ≡ self.now) }
+    {
+        let trust_domain = self.trust_domain.copy(alloc)?;
         let path = String::from_str(alloc, self.path.as_str())?;
         Ok(SpiffeId { trust_domain, path })
     }

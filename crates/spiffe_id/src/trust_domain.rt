@@ -81,10 +81,17 @@ impl TrustDomain {
         Ok(text)
     }
 
-    /// A copy in memory of its own.
+    /// A copy in memory of its own, refused as [`SpiffeIdError::OutOfMemory`] alone.
     pub fn try_clone(&self, alloc: Global) -> Result<Self, SpiffeIdError>
         ensures ok { IfOk result (λ d. d ≡ self.now) }
         ensures err { IfErr result (λ e. e ≡ SpiffeIdError.OutOfMemory) }
+    {
+        Ok(self.copy(alloc)?)
+    }
+
+    /// The same copy for callers that have errors of their own: it is refused for want of memory alone.
+    pub fn copy(&self, alloc: Global) -> Result<Self, AllocError>
+        ensures { IfOk result (λ d. d ≡ self.now) }
     {
         let name = String::from_str(alloc, self.name.as_str())?;
         Ok(TrustDomain { name })

@@ -189,7 +189,7 @@ impl JwtSvid {
         ensures err { IfErr result (λ e. e ≡ JwtSvidError.OutOfMemory) }
     {
         let token = String::from_str(alloc, self.token.as_str())?;
-        let spiffe_id = copy_id(alloc, &self.spiffe_id)?;
+        let spiffe_id = self.spiffe_id.copy(alloc)?;
         let claims = self.claims.try_clone(alloc)?;
         let key_id = String::from_str(alloc, self.key_id.as_str())?;
         let hint = copy_hint(alloc, &self.hint)?;
@@ -201,16 +201,6 @@ impl JwtSvid {
             alg: self.alg,
             hint,
         })
-    }
-}
-
-fn copy_id(alloc: Global, id: &SpiffeId) -> Result<SpiffeId, JwtSvidError>
-    ensures ok { IfOk result (λ copy. copy ≡ id.now) }
-    ensures err { IfErr result (λ e. e ≡ JwtSvidError.OutOfMemory) }
-{
-    match id.try_clone(alloc) {
-        Ok(copy) => Ok(copy),
-        Err(_) => Err(JwtSvidError::OutOfMemory),
     }
 }
 
