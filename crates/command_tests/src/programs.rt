@@ -3,12 +3,12 @@ use crate::checks::{good, same};
 use crate::samples::{REPORT, SAMPLE, WITHDRAWN};
 use command_line::{Status, unread};
 use identity_io::{LIMIT, MemorySink, MemorySource};
-use tool_program::run;
 use std::alloc::Global;
 use std::io::ErrorKind;
 use std::process::Abort;
 use std::sync::Wait;
 use std::thread::Threads;
+use tool_program::run;
 
 // Two identities, and three bundles of which the last replaces the first. Trust domains and key IDs ascend in the
 // report, the last of equal key IDs counts, one key ID is empty, and one has a space, `%`, `~` and a letter beyond ASCII.

@@ -1,15 +1,15 @@
 use crate::checks::{good, same, same_bytes, same_text};
 use crate::samples::{REPORT, SAMPLE};
 use command_line::Status;
-use refusal_lines::refusal_text;
-use tool_commands::report;
 use identity_io::{MemorySink, MemorySource};
 use identity_source::UpdateError;
+use refusal_lines::refusal_text;
 use spiffe_bundle::JwtBundleError;
 use spiffe_id::SpiffeIdError;
 use spiffe_json::JsonError;
 use std::alloc::Global;
 use std::process::Abort;
+use tool_commands::report;
 
 // What waits for nobody answers the same.
 #[test]

@@ -2,10 +2,10 @@ use crate::checks::{good, same, some};
 use crate::samples::{SAMPLE, WITHDRAWN};
 use command_line::Status;
 use identity_io::{LIMIT, MemorySink, MemorySource};
-use tool_script::session;
 use std::alloc::Global;
 use std::process::Abort;
 use std::sync::Wait;
+use tool_script::session;
 
 const REPLIES: &str =
     "accepted 1\nrefused: text: invalid Base64 length\nsvid 1 spiffe://example.org/a\nbundle 1 example.org 0\naccepted 2\nsvid 2 spiffe://example.org/a\n";

@@ -1,13 +1,8 @@
 //! `show` over streams of one byte a call, of which each call fails in turn. The report is that of the README.
+use crate::samples::{REPORT, SAMPLE};
 use command_line::Status;
-use tool_commands::show;
 use identity_io::{MemorySink, MemorySource};
-
-const SAMPLE: &str =
-    "MIGWMHYwdAwWc3BpZmZlOi8vZXhhbXBsZS5vcmcvYTAuAgEAMAUGAytlcAQiBCAR\nERERERERERERERERERERERERERERERERERERERERETAqMAUGAytlcAMhAE0pFn8/\nGRKm9636KToFGhXAXsZ7jxcmexxVUNzoU70NMBwwGgwLZXhhbXBsZS5vcmcEC3si\na2V5cyI6W119";
-
-const REPORT: &str =
-    "revision 1\nidentity spiffe://example.org/a 1.3.101.112 Vd1MdLDkhTTi9OFzzs61DfjyenrCqomRzHrpFOAwvO0=\nbundle example.org 0\n";
+use tool_commands::show;
 
 #[test]
 fn each_read_fails(rt: HostRuntime) {

@@ -1,16 +1,14 @@
 //! The sample of the README, cut and damaged at each place. Which cuts are Base64 of whole blocks, and
 //! so bytes that are no document, follows from RFC 4648 section 4; the nested key set is put together
 //! from the grammar by a few lines of Python.
+use crate::samples::SAMPLE;
 use base64ct::Error as TextError;
 use der_core::Error;
 use identity_update::{Update, UpdateError};
 use spiffe_bundle::JwtBundleError;
 use spiffe_json::JsonError;
 
-const SAMPLE: &[u8] =
-    b"MIGWMHYwdAwWc3BpZmZlOi8vZXhhbXBsZS5vcmcvYTAuAgEAMAUGAytlcAQiBCAR\nERERERERERERERERERERERERERERERERERERERERETAqMAUGAytlcAMhAE0pFn8/\nGRKm9636KToFGhXAXsZ7jxcmexxVUNzoU70NMBwwGgwLZXhhbXBsZS5vcmcEC3si\na2V5cyI6W119";
-
-// The same with a key set of 128 levels.
+// The sample with a key set of 128 levels.
 const NESTED: &[u8] =
     b"MIIBmDB2MHQMFnNwaWZmZTovL2V4YW1wbGUub3JnL2EwLgIBADAFBgMrZXAEIgQgERERERERERERERERERERERERERERERERERERERER\
      EREwKjAFBgMrZXADIQBNKRZ/PxkSpvet+ik6BRoVwF7Ge48XJnscVVDc6FO9DTCCARwwggEYDAtleGFtcGxlLm9yZwSCAQd7ImtleXMiO\
@@ -35,7 +33,7 @@ fn cut_texts(rt: HostRuntime) {
         } else {
             UpdateError::Text(TextError::InvalidEncoding)
         };
-        let found = Update::read(rt.alloc(), &SAMPLE[..end], 64).err();
+        let found = Update::read(rt.alloc(), &SAMPLE.as_bytes()[..end], 64).err();
         assert!(rt; found == Some(wanted), "{end}");
     }
     let documents = (0..SAMPLE.len()).filter(|end| is_whole(*end)).count();
@@ -45,7 +43,7 @@ fn cut_texts(rt: HostRuntime) {
 #[test]
 fn damaged_texts(rt: HostRuntime) {
     for place in 0..SAMPLE.len() {
-        let mut text = Vec::from_slice(rt.alloc(), SAMPLE).expect(&rt, "memory");
+        let mut text = Vec::from_slice(rt.alloc(), SAMPLE.as_bytes()).expect(&rt, "memory");
         text[place] = b'!';
         let found = Update::read(rt.alloc(), &text, 64).err();
         let wanted = UpdateError::Text(TextError::InvalidEncoding);

@@ -1,8 +1,8 @@
 //! That the workers run beside each other, and look at the source after its first update. Each gate holds a worker for at most so many turns of one atomic load, and counts where they were used up.
 use command_line::Status;
 use identity_io::{MemorySink, MemorySource};
-use tool_watch::{Gate, watch};
 use std::sync::atomic::{AtomicU64, Ordering};
+use tool_watch::{Gate, watch};
 
 const TURNS: u64 = 200_000_000;
 

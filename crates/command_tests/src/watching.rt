@@ -3,11 +3,11 @@
 use crate::checks::{good, same};
 use command_line::Status;
 use identity_io::{MemorySink, MemorySource};
-use tool_watch::{OpenGate, watch};
 use std::alloc::Global;
 use std::process::Abort;
 use std::sync::Wait;
 use std::thread::Threads;
+use tool_watch::{OpenGate, watch};
 
 // An update with its line: one identity and one bundle, the sample of the README, of 207 bytes.
 const GRANTED: &str = "update 207\n\
