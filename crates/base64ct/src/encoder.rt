@@ -13,13 +13,10 @@ ghost use Rattle.base64ct.specs.Encoder.{in_lines, in_lines_len, whole_groups};
 ghost use Rattle.base64ct.specs.LineWrapper.{HasLines, IsWide, advanced, in_lines_from, lines_of};
 
 use crate::line_ending::LineEnding;
-use crate::wrapping::{LineWrapper, part_lines, wrapped_len};
+use crate::wrapping::{LineWrapper, MIN_LINE_WIDTH, part_lines, wrapped_len};
 use base64_text::{Encoding, Error, ascii_text, encode_front, known};
 use std::io;
 use std::marker::{Model, PhantomData};
-
-/// The least width of a line.
-const MIN_LINE_WIDTH: usize = 4;
 
 /// Encodes bytes that come piece by piece to the front of an output, as one text or in lines. It is seen as
 /// what it took, the length of its output, and the width and the ending of its lines.
