@@ -10,7 +10,8 @@ use base64ct::{Encoder, Encoding, Error, LineEnding};
 // Gives an encoder all pieces.
 fn take_pieces<E: Encoding>(encoder: &mut Encoder<'_, E>, pieces: &[&[u8]]) -> Result<(), Error>
     requires { IsWideEnough encoder.old.lines }
-    ensures ok { OnOk result (encoder.new ≡ record encoder.old { taken = encoder.old.taken ++ flat_map (λ piece. piece.now) pieces.now }) }
+    ensures taken { OnOk result (encoder.new.taken ≡ encoder.old.taken ++ flat_map (λ piece. piece.now) pieces.now) }
+    ensures same { OnOk result ((encoder.new.room ≡ encoder.old.room) × (encoder.new.lines ≡ encoder.old.lines)) }
     ensures err { IfErr result (λ e. (e ≡ Error.InvalidLength) × (encoder.old.room < length (in_lines encoder.old.lines
         (encoding_of E.end E.table E.PADDED (encoder.old.taken ++ flat_map (λ piece. piece.now) pieces.now))))) }
 {

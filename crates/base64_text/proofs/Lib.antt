@@ -6,3 +6,4 @@ pub mod EncodingLemmas
 pub mod RefusalLemmas
 pub mod LooseLemmas
 pub mod CountLemmas
+pub mod RestLemmas

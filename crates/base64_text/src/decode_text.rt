@@ -4,7 +4,7 @@
 ghost use Rattle.std.specs.Prelude.{◌≡◌, ℕ, ◌<◌, ◌≤◌, ◌+◌, ◌-◌, ◌*◌, ◌/◌, ◌%◌, ◌++◌, ◌↔◌, List, length, take, drop, IfOk, IfErr, IsOkAnd, true, false, ◌≢◌, if◌then◌else◌};
 ghost use Rattle.base64_alphabet.specs.Encoding.{encoding_of, bytes_of_blocks};
 ghost use Rattle.base64_alphabet.specs.Table.{all_in};
-ghost use Rattle.base64_text.specs.Canonical.{IsBytes, IsDecodeError, IsDecodeVecError, HasWholeBlocks, has_lengths};
+ghost use Rattle.base64_text.specs.Canonical.{IsBytes, IsDecodeError, IsDecodeVecError, HasWholeBlocks, decoded_len, has_lengths, unpadded_len};
 ghost use Rattle.base64_text.specs.Counts.{decode_count, encode_count};
 
 use crate::encode_text::encode_into;
@@ -30,6 +30,9 @@ pub(crate) fn decode_counting<E: Alphabet, L: Ledger>(
         → IfOk result (λ n. take n dst.new ≡ b) }
     ensures accepted { (b : List ℕ) → IsBytes b → src.now ≡ encoding_of E.end E.table E.PADDED b
         → length b ≤ length dst.old → IsOkAnd result (λ n. take n dst.new ≡ b) }
+    ensures rest { IfOk result (λ n. drop n dst.new ≡ drop n dst.old) }
+    ensures behind { drop (decoded_len (unpadded_len E.PADDED src.now)) dst.new ≡ drop (decoded_len (unpadded_len E.PADDED src.now)) dst.old }
+    ensures untouched { has_lengths E.PADDED src.now (length dst.old) ≡ false → dst.new ≡ dst.old }
     ensures err { IfErr result (IsDecodeError E.end E.table E.PADDED src.now (length dst.old)) }
     ensures steps { steps.new ≡ steps.old
         + (if has_lengths E.PADDED src.now (length dst.old) then decode_count E.table E.PADDED src.now else 0) }
@@ -76,6 +79,9 @@ pub(crate) fn decode_into<E: Alphabet>(src: &[u8], dst: &mut [u8]) -> Result<usi
         → IfOk result (λ n. take n dst.new ≡ b) }
     ensures accepted { (b : List ℕ) → IsBytes b → src.now ≡ encoding_of E.end E.table E.PADDED b
         → length b ≤ length dst.old → IsOkAnd result (λ n. take n dst.new ≡ b) }
+    ensures rest { IfOk result (λ n. drop n dst.new ≡ drop n dst.old) }
+    ensures behind { drop (decoded_len (unpadded_len E.PADDED src.now)) dst.new ≡ drop (decoded_len (unpadded_len E.PADDED src.now)) dst.old }
+    ensures untouched { has_lengths E.PADDED src.now (length dst.old) ≡ false → dst.new ≡ dst.old }
     ensures err { IfErr result (IsDecodeError E.end E.table E.PADDED src.now (length dst.old)) }
 {
     decode_from::<E, Brand>(src, dst, Blank::new(1))
@@ -96,6 +102,9 @@ fn decode_from<E: Alphabet, L: Ledger>(
         → IfOk result (λ n. take n dst.new ≡ b) }
     ensures accepted { (b : List ℕ) → IsBytes b → src.now ≡ encoding_of E.end E.table E.PADDED b
         → length b ≤ length dst.old → IsOkAnd result (λ n. take n dst.new ≡ b) }
+    ensures rest { IfOk result (λ n. drop n dst.new ≡ drop n dst.old) }
+    ensures behind { drop (decoded_len (unpadded_len E.PADDED src.now)) dst.new ≡ drop (decoded_len (unpadded_len E.PADDED src.now)) dst.old }
+    ensures untouched { has_lengths E.PADDED src.now (length dst.old) ≡ false → dst.new ≡ dst.old }
     ensures err { IfErr result (IsDecodeError E.end E.table E.PADDED src.now (length dst.old)) }
 {
     let mut steps = Steps::<L>::new(blank);

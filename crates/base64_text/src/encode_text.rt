@@ -1,7 +1,7 @@
 //! Encoding of bytes.
 #![tactic(auto)]
 
-ghost use Rattle.std.specs.Prelude.{◌≡◌, ℕ, ◌≤◌, ◌<◌, ◌+◌, ◌*◌, ◌/◌, ◌%◌, ◌^◌, ◌↔◌, length, take, drop, IsSome, IfSome, is_some, if◌then◌else◌, IfOk, IfErr, Err, IsAscii, string_bytes};
+ghost use Rattle.std.specs.Prelude.{◌≡◌, ℕ, ◌≤◌, ◌<◌, ◌+◌, ◌*◌, ◌/◌, ◌%◌, ◌^◌, ◌↔◌, length, take, drop, IsSome, IfSome, IfNone, is_some, if◌then◌else◌, IfOk, IfErr, Err, IsAscii, string_bytes};
 ghost use Rattle.base64_alphabet.specs.Encoding.{encoding_of};
 ghost use Rattle.base64_text.specs.Canonical.{IsEncodeStringError};
 ghost use Rattle.base64_text.specs.Counts.{encoded_len, encode_count};
@@ -21,6 +21,7 @@ pub(crate) fn encode_into<E: Alphabet, L: Ledger>(
     requires room { encoded_len E.PADDED (length src.now) ≤ length dst.old }
     ensures len { result ≡ encoded_len E.PADDED (length src.now) }
     ensures text { take result dst.new ≡ encoding_of E.end E.table E.PADDED src.now }
+    ensures rest { drop result dst.new ≡ drop result dst.old }
     ensures steps { steps.new ≡ steps.old + encode_count E.PADDED (length src.now) }
 {
     let groups = src.len() / 3;
@@ -38,6 +39,8 @@ pub(crate) fn encode_fitting<E: Alphabet, L: Ledger>(
 ) -> Option<usize>
     ensures within { IfSome result (λ n. n ≤ length dst.old) }
     ensures text { IfSome result (λ n. take n dst.new ≡ encoding_of E.end E.table E.PADDED src.now) }
+    ensures rest { IfSome result (λ n. drop n dst.new ≡ drop n dst.old) }
+    ensures same { IfNone result (dst.new ≡ dst.old) }
     ensures ascii { IfSome result (λ n. IsAscii (take n dst.new)) }
     ensures fits { IsSome result ↔ ((4 * length src.now < 2 ^ 64) × (encoded_len E.PADDED (length src.now) ≤ length dst.old)) }
     ensures steps { steps.new ≡ steps.old + (if is_some result then encode_count E.PADDED (length src.now) else 0) }
@@ -53,6 +56,8 @@ pub(crate) fn encode_fitting<E: Alphabet, L: Ledger>(
 pub(crate) fn encode_plainly<E: Alphabet>(src: &[u8], dst: &mut [u8]) -> Option<usize>
     ensures within { IfSome result (λ n. n ≤ length dst.old) }
     ensures text { IfSome result (λ n. take n dst.new ≡ encoding_of E.end E.table E.PADDED src.now) }
+    ensures rest { IfSome result (λ n. drop n dst.new ≡ drop n dst.old) }
+    ensures same { IfNone result (dst.new ≡ dst.old) }
     ensures ascii { IfSome result (λ n. IsAscii (take n dst.new)) }
     ensures fits { IsSome result ↔ ((4 * length src.now < 2 ^ 64) × (encoded_len E.PADDED (length src.now) ≤ length dst.old)) }
 {
@@ -65,6 +70,8 @@ fn encode_from<E: Alphabet, L: Ledger>(src: &[u8], dst: &mut [u8], blank: Blank)
     requires share { 0 < blank.parts }
     ensures within { IfSome result (λ n. n ≤ length dst.old) }
     ensures text { IfSome result (λ n. take n dst.new ≡ encoding_of E.end E.table E.PADDED src.now) }
+    ensures rest { IfSome result (λ n. drop n dst.new ≡ drop n dst.old) }
+    ensures same { IfNone result (dst.new ≡ dst.old) }
     ensures ascii { IfSome result (λ n. IsAscii (take n dst.new)) }
     ensures fits { IsSome result ↔ ((4 * length src.now < 2 ^ 64) × (encoded_len E.PADDED (length src.now) ≤ length dst.old)) }
 {

@@ -1,9 +1,9 @@
 //! Whole texts.
 #![tactic(auto)]
 
-ghost use Rattle.std.specs.Prelude.{◌≡◌, ℕ, ◌<◌, ◌≤◌, ◌+◌, ◌*◌, ◌^◌, ◌↔◌, ◌⊎◌, List, length, string_bytes, nat_lt, true, is_ok, Err, IsOk, IsErr, IfOk, IfErr, OnErr, IsOkAnd, if◌then◌else◌};
+ghost use Rattle.std.specs.Prelude.{◌≡◌, ℕ, ◌<◌, ◌≤◌, ◌+◌, ◌*◌, ◌^◌, ◌↔◌, ◌⊎◌, List, length, take, drop, string_bytes, nat_lt, true, false, is_ok, Err, IsOk, IsErr, IfOk, IfErr, OnErr, IsOkAnd, if◌then◌else◌};
 ghost use Rattle.base64_alphabet.specs.Encoding.{encoding_of};
-ghost use Rattle.base64_text.specs.Canonical.{IsBytes, IsNoEncoding, IsDecodeError, IsDecodeVecError, IsEncodeStringError, is_clean, loose_bytes, unpadded_len, has_lengths, has_whole_blocks};
+ghost use Rattle.base64_text.specs.Canonical.{IsBytes, IsNoEncoding, IsDecodeError, IsDecodeVecError, IsEncodeStringError, decoded_len, is_clean, loose_bytes, unpadded_len, has_lengths, has_whole_blocks};
 ghost use Rattle.base64_text.specs.Counts.{decode_count, loose_count, encode_count, encoded_len as len_of};
 
 use crate::decode_text::{decode_counting, decode_into, decode_to_vec};
@@ -43,8 +43,27 @@ pub trait Encoding: Alphabet {
         }
     }
 
+    /// `decode`, which answers the number of bytes in place of the part, and tells what the output ends as: behind
+    /// the bytes it is as it was. A refusal leaves what stands behind the room that the text's length tells, and
+    /// where a test of lengths fails it leaves all.
+    fn decode_into(src: &[u8], dst: &mut [u8]) -> Result<usize, Error>
+        ensures within { IfOk result (λ n. n ≤ length dst.old) }
+        ensures ok { IfOk result (λ n. src.now ≡ encoding_of Self.end Self.table Self.PADDED (take n dst.new)) }
+        ensures bytes { IfOk result (λ n. IsBytes (take n dst.new)) }
+        ensures rest { IfOk result (λ n. drop n dst.new ≡ drop n dst.old) }
+        ensures accepted { (b : List ℕ) → IsBytes b → src.now ≡ encoding_of Self.end Self.table Self.PADDED b
+            → length b ≤ length dst.old → IsOkAnd result (λ n. take n dst.new ≡ b) }
+        ensures err { IfErr result (IsDecodeError Self.end Self.table Self.PADDED src.now (length dst.old)) }
+        ensures behind { drop (decoded_len (unpadded_len Self.PADDED src.now)) dst.new
+            ≡ drop (decoded_len (unpadded_len Self.PADDED src.now)) dst.old }
+        ensures untouched { has_lengths Self.PADDED src.now (length dst.old) ≡ false → dst.new ≡ dst.old }
+    {
+        decode_into::<Self>(src, dst)
+    }
+
     /// Decodes a text to the front of its own buffer, and answers that part. Bits after the last byte may have
-    /// any value, so several texts give the same bytes: take `decode` where that matters.
+    /// any value, so several texts give the same bytes: take `decode` where that matters. It errs where a character
+    /// isn't in the table, padding stands elsewhere than at the end, or the length is that of no text.
     fn decode_in_place(buf: &mut [u8]) -> Result<&[u8], InvalidEncodingError>
         ensures bytes { IfOk result (λ bytes. bytes.now ≡ loose_bytes Self.end Self.table Self.PADDED buf.old) }
         ensures clean { IsOk result ↔ (is_clean Self.table Self.PADDED buf.old ≡ true) }
@@ -66,8 +85,8 @@ pub trait Encoding: Alphabet {
         decode_to_vec::<Self>(alloc, input.as_bytes())
     }
 
-    /// Writes the encoding to the front of an output, and answers that part as a text. `encoded_len` tells the
-    /// room that it needs.
+    /// Writes the encoding to the front of an output, and answers that part as a text. It errs where the output is
+    /// shorter than the text, whose length `encoded_len` tells, or four times the number of bytes exceeds `usize`.
     fn encode<'a>(src: &[u8], dst: &'a mut [u8]) -> Result<&'a str, InvalidLengthError>
         ensures text { IfOk result (λ text. text.now ≡ encoding_of Self.end Self.table Self.PADDED src.now) }
         ensures fits { IsOk result ↔ ((4 * length src.now < 2 ^ 64)
@@ -75,6 +94,22 @@ pub trait Encoding: Alphabet {
     {
         match encode_plainly::<Self>(src, dst) {
             Some(n) => Ok(ascii_text(&dst[..n])),
+            None => Err(InvalidLengthError),
+        }
+    }
+
+    /// `encode`, which answers the length of the text in place of the text, and tells what the output ends as:
+    /// behind the text it is as it was, and after a refusal all of it.
+    fn encode_into(src: &[u8], dst: &mut [u8]) -> Result<usize, InvalidLengthError>
+        ensures within { IfOk result (λ n. n ≤ length dst.old) }
+        ensures text { IfOk result (λ n. take n dst.new ≡ encoding_of Self.end Self.table Self.PADDED src.now) }
+        ensures rest { IfOk result (λ n. drop n dst.new ≡ drop n dst.old) }
+        ensures fits { IsOk result ↔ ((4 * length src.now < 2 ^ 64)
+            × (length (encoding_of Self.end Self.table Self.PADDED src.now) ≤ length dst.old)) }
+        ensures same { OnErr result (dst.new ≡ dst.old) }
+    {
+        match encode_plainly::<Self>(src, dst) {
+            Some(n) => Ok(n),
             None => Err(InvalidLengthError),
         }
     }
@@ -100,7 +135,7 @@ pub trait Encoding: Alphabet {
         }
     }
 
-    /// `decode`, counted.
+    /// `decode`, counted. It errs where `decode` does.
     fn decode_counted<'o, L: Ledger>(
         src: &[u8],
         dst: &'o mut [u8],
@@ -120,7 +155,7 @@ pub trait Encoding: Alphabet {
         }
     }
 
-    /// `encode`, counted.
+    /// `encode`, counted. It errs where `encode` does.
     fn encode_counted<'a, L: Ledger>(
         src: &[u8],
         dst: &'a mut [u8],
@@ -137,7 +172,7 @@ pub trait Encoding: Alphabet {
         }
     }
 
-    /// `decode_in_place`, counted.
+    /// `decode_in_place`, counted. It errs where `decode_in_place` does.
     fn decode_in_place_counted<'b, L: Ledger>(
         buf: &'b mut [u8],
         steps: &mut Steps<L>,

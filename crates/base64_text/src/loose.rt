@@ -24,6 +24,7 @@ pub(crate) fn decode_loose<E: Alphabet, L: Ledger>(
     ensures clean { result ≡ is_clean E.table E.PADDED src.now }
     ensures written { is_clean E.table E.PADDED src.now ≡ true
         → take (decoded_len u) dst.new ≡ loose_bytes E.end E.table E.PADDED src.now }
+    ensures rest { drop (decoded_len u) dst.new ≡ drop (decoded_len u) dst.old }
     ensures steps { steps.new ≡ steps.old + loose_count u }
 {
     let blocks = u / 4;

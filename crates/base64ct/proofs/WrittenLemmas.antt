@@ -1,6 +1,6 @@
 -- What an encoder holds before and after it writes.
 use Rattle.std.proofs.Common.{◌≡◌, ℕ, zero, suc, All, IsAscii, ◌+◌, ◌-◌, ◌*◌, ◌/◌, ◌%◌, ◌<◌, ◌≤◌, Bool, List, [], ◌∷◌, ◌++◌, length, take, drop, get_or, arith, refl, ap, sym, ◌∙◌, append_assoc, length-append, length-drop, subst, Option, Some, None}
-use Rattle.std.proofs.lemmas.List.{drop_at, length-take-le, take-append-drop, take-append-le, take-take, take_all, take_at}
+use Rattle.std.proofs.lemmas.List.{drop-drop, drop_at, length-take-le, take-append-drop, take-append-le, take-take, take_all, take_at}
 use Rattle.std.proofs.lemmas.List.Elements.{All-append, All-cons, All-head, All-nil, All-tail, All-take}
 use Rattle.std.proofs.lemmas.Grind.{get_or_default_zero}
 use Rattle.std.proofs.lemmas.Slice.{drop-put_mid, take-put_mid}
@@ -143,6 +143,7 @@ pub record AtEnd (output text : List ℕ) (from e : ℕ) : Type 0 where
   pub len : length (take e (put_mid from (e - from) output text)) ≡ e
   pub front : (k : ℕ) → k ≤ from → take k (take e (put_mid from (e - from) output text)) ≡ take k output
   pub rest : length (drop e (put_mid from (e - from) output text)) ≡ length output - e
+  pub kept : drop e (put_mid from (e - from) output text) ≡ drop e output
 
 pub at_end : (output text : List ℕ) (from e : ℕ) → from ≤ e → e ≤ length output → length text ≡ e - from → AtEnd output text from e
 at_end output text from e low high len =
@@ -154,13 +155,14 @@ at_end output text from e low high len =
       len = ap length is ∙ a ∙ omega arith;
       front = λ n le. ap (take n) is ∙ take-append-le n (take from output) text (omega arith) ∙ take-take n from output le;
       rest = ap length (drop-put_mid from (e - from) output text e (omega arith) (omega arith) len) ∙ length-drop e output;
+      kept = drop-put_mid from (e - from) output text e (omega arith) (omega arith) len;
     }
 
 -- ---- what a call writes
 
 -- what an encoder is seen as
-abbrev pub progress : List ℕ → ℕ → Option (ℕ × LineEnding) → Progress
-progress taken room lines = record { taken = taken; room = room; lines = lines }
+abbrev pub progress : List ℕ → ℕ → List ℕ → Option (ℕ × LineEnding) → Progress
+progress taken room behind lines = record { taken = taken; room = room; behind = behind; lines = lines }
 
 pub bytes_known : (b : List ℕ) → ((k : ℕ) → get_or b k 0 < 256) → IsBytes b
 bytes_known b known = λ k d lt. rw (get_or_default_zero b k d lt) (known k)
@@ -242,6 +244,17 @@ groups_len end table padded output block input wrapper filled count i long =
     length-in_lines wrapper (characters end table (bytes_written end table wrapper (take filled output))) (encoding_of end table padded (whole_groups b)) i.lines
     ∙ ap (in_lines_len (lines_of wrapper)) (length-encoding_of end table (whole_groups b) padded ∙ l)
 
+-- an encoder's text ends where its output is filled to
+pub position_is : (end : End) (table : List ℕ) (padded : Bool) (output block : List ℕ) (wrapper : Option LineWrapper) (filled count : ℕ) → IsWritten end table wrapper output filled count → length block ≡ 3
+    → length (in_lines (lines_of wrapper) (encoding_of end table padded (whole_groups (taken_of end table wrapper output filled count block)))) ≡ filled
+position_is end table padded output block wrapper filled count i long =
+    let b : List ℕ = taken_of end table wrapper output filled count block in
+    let n : length b ≡ count = taken_len end table output block wrapper filled count i long in
+    let part : length (whole_groups b) ≡ 3 * (length b / 3) = length-take-le (3 * (length b / 3)) b (omega arith) in
+    let l : encoded_len padded (length (whole_groups b)) ≡ 4 * (count / 3) = whole_len padded (length (whole_groups b)) (omega arith) ∙ omega arith in
+    length-in_lines wrapper (characters end table (bytes_written end table wrapper (take filled output))) (encoding_of end table padded (whole_groups b)) i.lines
+    ∙ ap (in_lines_len (lines_of wrapper)) (length-encoding_of end table (whole_groups b) padded ∙ l) ∙ sym (filled_len end table output wrapper filled count i)
+
 -- ---- where a call writes
 
 groups_size : (end : End) (table b : List ℕ) → length (characters end table (whole_groups b)) ≡ 4 * (length b / 3)
@@ -268,6 +281,13 @@ placed end table output n wrapper filled count from e i fits e_is from_is =
     let long = length-in_lines_from wrapper n in
     record { at = at_end output n from e (omega arith) fits (omega arith); low = omega arith; room = room }
 
+pub behind_of : (output n out : List ℕ) (wrapper : Option LineWrapper) (filled from e : ℕ) → Place wrapper output n filled from e → length out ≡ e
+    → drop e (out ++ drop e (put_mid from (e - from) output n)) ≡ drop (e - filled) (drop filled output)
+behind_of output n out wrapper filled from e p len =
+    let room = p.room in
+    let next : filled + (e - filled) ≡ e = omega arith in
+    drop_at out (drop e (put_mid from (e - from) output n)) e len ∙ p.at.kept ∙ ap (λ k. drop k output) (sym next) ∙ sym (drop-drop (e - filled) filled output)
+
 pub encode_placed : (end : End) (table output n : List ℕ) (wrapper : Option LineWrapper) (filled count more from e : ℕ) → IsWritten end table wrapper output filled count → e ≤ length output
     → e ≡ in_lines_len (lines_of wrapper) (4 * ((count + more) / 3) + 0) → from ≡ e - 4 * ((count + more) / 3 - count / 3) → length n ≡ 4 * ((count % 3 + more) / 3)
     → Place wrapper output n filled from e
@@ -277,8 +297,9 @@ encode_placed end table output n wrapper filled count more from e i fits e_is fr
 
 pub record Encoded (end : End) (table : List ℕ) (wrapper next : Option LineWrapper) (output new : List ℕ) (filled e count more : ℕ) (block kept input : List ℕ) : Type 0 where
   pub written : IsWritten end table next new e (count + more)
-  pub seen : progress (taken_of end table next new e (count + more) kept) (length new) (lines_of next)
-      ≡ progress (taken_of end table wrapper output filled count block ++ input) (length output) (lines_of wrapper)
+  pub seen : progress (taken_of end table next new e (count + more) kept) (length new) (drop e new) (lines_of next)
+      ≡ progress (taken_of end table wrapper output filled count block ++ input) (length output) (drop e new) (lines_of wrapper)
+  pub behind : drop e new ≡ drop (e - filled) (drop filled output)
 
 pub encoded : (end : End) (table : List ℕ) (padded : Bool) (wrapper next : Option LineWrapper) (output n out : List ℕ) (filled from e count : ℕ) (block kept input : List ℕ)
     → Facts table → IsWritten end table wrapper output filled count → length block ≡ 3 → IsBytes (take (count % 3) block ++ input)
@@ -298,7 +319,7 @@ encoded end table padded wrapper next output n out filled from e count block kep
     (is ∙ ap (λ xs. take filled output ++ in_lines_from wrapper xs) n_is) (next_is ∙ ap (advanced wrapper) (p.at.back ∙ n_is)) len kept_is in
     let rest = p.at.rest in
     let room : length (out ++ tail) ≡ length output = length-append out tail ∙ omega arith in
-    record { written = r.written; seen = rw (r.taken, room, r.lines) refl }
+    record { written = r.written; seen = rw (r.taken, room, r.lines) refl; behind = behind_of output n out wrapper filled from e p len }
 
 -- ---- at the end
 

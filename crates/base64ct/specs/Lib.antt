@@ -5,6 +5,7 @@ pub use Rattle.base64_text.specs.Canonical
 pub use Rattle.base64_text.specs.Counts
 pub use Rattle.base64_text.specs.Errors
 pub use Rattle.base64_text.specs.LastBlock
+pub mod Rows
 pub mod Lines
 pub mod Items
 pub mod Walk

@@ -1,29 +1,31 @@
 //! Decoding of texts in lines.
 #![tactic(auto)]
 
-ghost use Rattle.std.specs.Prelude.{◌≡◌, ℕ, ◌≤◌, ◌<◌, ◌+◌, ◌-◌, ◌*◌, ◌^◌, ◌++◌, ◌⊎◌, ◌↔◌, map, length, vec_len, take, Some, min, None, Contains, Ok, OnOk, OnErr, IfOk, IfErr, IsOk, IsOkAnd, [], List, true, false};
+ghost use Rattle.std.specs.Prelude.{◌≡◌, ℕ, ◌≤◌, ◌<◌, ◌+◌, ◌-◌, ◌*◌, ◌^◌, ◌++◌, ◌⊎◌, ◌↔◌, ⊤, MatchResult, map, length, vec_len, take, Some, min, None, Contains, Ok, OnOk, OnErr, IfOk, IfErr, IsOk, IsOkAnd, [], List, true, false};
 ghost use Rattle.std.specs.Io.{ReadsAtMost};
+ghost use Rattle.std.specs.Borrow.{sem};
+ghost use Rattle.std.specs.Io.BufRead.{Rests};
 ghost use Rattle.std.specs.Io.KnownBytes.{Consumes, ReadConsumes};
 ghost use Rattle.std.specs.IoError.{error_kind};
 ghost use Rattle.std.specs.declared.io.ErrorKind.TheVariants.{InvalidData};
 ghost use Rattle.base64_text.specs.Canonical.{IsBytes};
 ghost use Rattle.base64_text.specs.LastBlock.{HasCanonicalEnd};
 ghost use Rattle.base64ct.specs.Lines.{has_endings, joined, trimmed, IsWrappedText};
+ghost use Rattle.base64ct.specs.Rows.{vector_row};
 ghost use Rattle.base64ct.specs.Items.{items, IsWrapped, IsNewError, IsWrapError, IsAppendError, IsTakeError, known_bytes};
 
 use crate::left::{Left, begin, take_items};
 use crate::lines::{ends_in_break, trim_break};
+use crate::wrapping::MIN_LINE_WIDTH;
 use base64_text::{Encoding, Error, known};
+use std::alloc::AllocError;
 use std::io;
 use std::marker::{Model, PhantomData};
-
-/// The least width of a line.
-const MIN_LINE_WIDTH: usize = 4;
 
 /// Decodes a text, or one in lines such as the body of a PEM document, piece by piece. It borrows the text,
 /// and is seen as the list of what is left: for each byte to come its value, or `None` where its block of
 /// four characters has one that isn't in the table.
-#[derive(Clone, Drop)]
+#[derive(Drop)]
 pub struct Decoder<'i, E: Encoding> {
     left: Left<'i>,
     remaining: usize,
@@ -185,8 +187,9 @@ impl<'i, E: Encoding> Decoder<'i, E> {
         }
     }
 
-    /// Appends all that is left, and answers the appended part. A caller that wants the vector too takes
-    /// `append_to`.
+    /// Appends all that is left, and answers the appended part. After a refusal the decoder and the vector are
+    /// as they were: `InvalidLength` tells that the vector would exceed `usize`, `InvalidEncoding` that a block
+    /// is bad. A caller that wants the vector too takes `append_to`.
     pub fn decode_to_end<'o>(&mut self, buf: &'o mut Vec<u8>) -> Result<&'o [u8], Error>
         ensures bytes { IfOk result (λ bytes. self.old ≡ map Some bytes.now) }
         ensures none_left { OnOk result (self.new ≡ []) }
@@ -194,11 +197,40 @@ impl<'i, E: Encoding> Decoder<'i, E> {
         ensures no_bytes { result ≡ Err Error.InvalidEncoding → (b : List ℕ) → self.old ≡ map Some b → ⊥ }
         ensures same { OnErr result (self.new ≡ self.old) }
     {
-        let start = buf.len();
-        match self.append_to(buf) {
-            Ok(_) => Ok(&buf[start..]),
-            Err(error) => Err(error),
-        }
+        append_all(buf, self)
+    }
+}
+
+// `decode_to_end`, with the vector first: the kit proves what a lender ends as for a first argument alone.
+fn append_all<'o, E: Encoding>(
+    buf: &'o mut Vec<u8>,
+    decoder: &mut Decoder<'_, E>,
+) -> Result<&'o [u8], Error>
+    ensures bytes { IfOk result (λ bytes. decoder.old ≡ map Some bytes.now) }
+    ensures* vector { sem 𝓛 (Rests vector_row buf.entry (λ last. MatchResult result
+        (λ bytes. last.items ≡ buf.old.items ++ bytes.now) (λ _. last.items ≡ buf.old.items))) }
+    ensures none_left { OnOk result (decoder.new ≡ []) }
+    ensures err { IfErr result (IsAppendError decoder.old (vec_len buf.old)) }
+    ensures no_bytes { result ≡ Err Error.InvalidEncoding → (b : List ℕ) → decoder.old ≡ map Some b → ⊥ }
+    ensures same { OnErr result (decoder.new ≡ decoder.old) }
+{
+    let start = buf.len();
+    decoder.append_to(buf)?;
+    Ok(&buf[start..])
+}
+
+/// A clone has the same bytes left, and stands at the same place. It takes no memory, and is never refused.
+impl<'i, E: Encoding> Clone for Decoder<'i, E> {
+    ghost is_clone = { λ d e. e ≡ d };
+
+    ghost is_infallible = { λ _. ⊤ };
+
+    fn clone(&self) -> Result<Self, AllocError> {
+        Ok(Decoder {
+            left: self.left,
+            remaining: self.remaining,
+            encoding: PhantomData,
+        })
     }
 }
 

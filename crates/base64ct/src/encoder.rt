@@ -9,20 +9,18 @@ ghost use Rattle.std.specs.declared.io.ErrorKind.TheVariants.{InvalidData};
 ghost use Rattle.base64_alphabet.specs.Encoding.{characters, encoding_of};
 ghost use Rattle.base64_text.specs.Canonical.{IsBytes};
 ghost use Rattle.base64_text.specs.Counts.{encoded_len};
-ghost use Rattle.base64ct.specs.Encoder.{in_lines, in_lines_len, whole_groups};
+ghost use Rattle.base64ct.specs.Encoder.{in_lines, in_lines_len, position_of, whole_groups};
 ghost use Rattle.base64ct.specs.LineWrapper.{HasLines, IsWide, advanced, in_lines_from, lines_of};
 
 use crate::line_ending::LineEnding;
-use crate::wrapping::{LineWrapper, part_lines, wrapped_len};
+use crate::wrapping::{LineWrapper, MIN_LINE_WIDTH, part_lines, wrapped_len};
 use base64_text::{Encoding, Error, ascii_text, encode_front, known};
 use std::io;
 use std::marker::{Model, PhantomData};
 
-/// The least width of a line.
-const MIN_LINE_WIDTH: usize = 4;
-
 /// Encodes bytes that come piece by piece to the front of an output, as one text or in lines. It is seen as
-/// what it took, the length of its output, and the width and the ending of its lines.
+/// what it took, the length of its output, the part of it behind its text, which it hasn't changed, and the width
+/// and the ending of its lines.
 #[derive(Drop)]
 pub struct Encoder<'o, E: Encoding> {
     output: &'o mut [u8],
@@ -34,7 +32,7 @@ pub struct Encoder<'o, E: Encoding> {
 }
 
 impl<'o, E: Encoding> Model for Encoder<'o, E> {
-    ghost use Rattle.std.specs.Prelude.{length};
+    ghost use Rattle.std.specs.Prelude.{drop, length};
     ghost use Rattle.base64ct.specs.Encoder.{Progress};
 
     ghost Value = { Progress };
@@ -45,6 +43,7 @@ impl<'o, E: Encoding> Model for Encoder<'o, E> {
     ghost view = { λ e. record {
       taken = taken_of E.end E.table e.wrapper e.output.now e.filled e.count e.block;
       room = length e.output.now;
+      behind = drop e.filled e.output.now;
       lines = lines_of e.wrapper;
     } };
 
@@ -54,7 +53,7 @@ impl<'o, E: Encoding> Model for Encoder<'o, E> {
 impl<'o, E: Encoding> Encoder<'o, E> {
     /// An encoder that writes one text without lines. `InvalidLength` tells that the output is empty.
     pub fn new(output: &'o mut [u8]) -> Result<Self, Error>
-        ensures ok { IfOk result (λ e. e ≡ record { taken = []; room = length output.entry.now; lines = None }) }
+        ensures ok { IfOk result (λ e. e ≡ record { taken = []; room = length output.entry.now; behind = output.entry.now; lines = None }) }
         ensures some { IfOk result (λ _. 0 < length output.entry.now) }
         ensures err { IfErr result (λ e. (e ≡ Error.InvalidLength) × (length output.entry.now ≡ 0)) }
     {
@@ -68,7 +67,7 @@ impl<'o, E: Encoding> Encoder<'o, E> {
         width: usize,
         ending: LineEnding,
     ) -> Result<Self, Error>
-        ensures ok { IfOk result (λ e. e ≡ record { taken = []; room = length output.entry.now; lines = Some (width, ending) }) }
+        ensures ok { IfOk result (λ e. e ≡ record { taken = []; room = length output.entry.now; behind = output.entry.now; lines = Some (width, ending) }) }
         ensures some { IfOk result (λ _. (4 ≤ width) × (0 < length output.entry.now)) }
         ensures err { IfErr result (λ e. (e ≡ Error.InvalidLength) × ((width < 4) ⊎ (length output.entry.now ≡ 0))) }
     {
@@ -89,7 +88,9 @@ impl<'o, E: Encoding> Encoder<'o, E> {
     /// Takes bytes. `InvalidLength` tells that the text of all whole groups of three bytes taken would exceed
     /// the output.
     pub fn encode(&mut self, input: &[u8]) -> Result<(), Error>
-        ensures ok { OnOk result (self.new ≡ record self.old { taken = self.old.taken ++ input.now }) }
+        ensures ok { OnOk result (self.new ≡ record self.old { taken = self.old.taken ++ input.now; behind = self.new.behind }) }
+        ensures behind { OnOk result (self.new.behind ≡ drop (length (in_lines self.old.lines (encoding_of E.end E.table E.PADDED
+            (whole_groups (self.old.taken ++ input.now)))) - position_of E.end E.table E.PADDED self.old) self.old.behind) }
         ensures fits { IsOk result ↔ (length (in_lines self.old.lines
             (encoding_of E.end E.table E.PADDED (whole_groups (self.old.taken ++ input.now)))) ≤ self.old.room) }
         ensures err { IfErr result (λ e. e ≡ Error.InvalidLength) }
@@ -110,7 +111,7 @@ impl<'o, E: Encoding> Encoder<'o, E> {
 
     /// The length of what was written: the text of all whole groups of three bytes taken.
     pub fn position(&self) -> usize
-        ensures { result ≡ length (in_lines self.now.lines (encoding_of E.end E.table E.PADDED (whole_groups self.now.taken))) }
+        ensures { result ≡ position_of E.end E.table E.PADDED self.now }
     {
         self.filled
     }
@@ -130,7 +131,9 @@ impl<'o, E: Encoding> Encoder<'o, E> {
     /// `finish`, with the part of the output behind the text.
     pub fn finish_with_remaining(self) -> Result<(&'o str, &'o mut [u8]), Error>
         ensures text { IfOk result (λ parts. parts.0.now ≡ in_lines self.entry.lines (encoding_of E.end E.table E.PADDED self.entry.taken)) }
-        ensures rest { IfOk result (λ parts. length parts.0.now + length parts.1.now ≡ self.entry.room) }
+        ensures rest { IfOk result (λ parts. parts.1.now
+            ≡ drop (length parts.0.now - position_of E.end E.table E.PADDED self.entry) self.entry.behind) }
+        ensures room { IfOk result (λ parts. length parts.0.now + length parts.1.now ≡ self.entry.room) }
         ensures fits { IsOk result ↔ (length (in_lines self.entry.lines (encoding_of E.end E.table E.PADDED self.entry.taken)) ≤ self.entry.room) }
         ensures err { IfErr result (λ e. e ≡ Error.InvalidLength) }
     {
@@ -152,7 +155,7 @@ impl<'o, E: Encoding> Encoder<'o, E> {
 
     fn start(output: &'o mut [u8], wrapper: Option<LineWrapper>) -> Result<Self, Error>
         requires { HasLines wrapper [] }
-        ensures ok { IfOk result (λ e. e ≡ record { taken = []; room = length output.entry.now; lines = lines_of wrapper }) }
+        ensures ok { IfOk result (λ e. e ≡ record { taken = []; room = length output.entry.now; behind = output.entry.now; lines = lines_of wrapper }) }
         ensures some { IfOk result (λ _. 0 < length output.entry.now) }
         ensures err { IfErr result (λ e. (e ≡ Error.InvalidLength) × (length output.entry.now ≡ 0)) }
     {
@@ -178,7 +181,9 @@ impl<'o, E: Encoding> io::Write for Encoder<'o, E> {
         ensures bound { WritesAtMost result buf.now }
         ensures bytes { WriteAppends (Some self.old.taken) (Some self.new.taken) result buf.now }
         ensures count { IfOk result (λ n. n ≡ length buf.now) }
-        ensures ok { OnOk result (self.new ≡ record self.old { taken = self.old.taken ++ buf.now }) }
+        ensures ok { OnOk result (self.new ≡ record self.old { taken = self.old.taken ++ buf.now; behind = self.new.behind }) }
+        ensures behind { OnOk result (self.new.behind ≡ drop (length (in_lines self.old.lines (encoding_of E.end E.table E.PADDED
+            (whole_groups (self.old.taken ++ buf.now)))) - position_of E.end E.table E.PADDED self.old) self.old.behind) }
         ensures fits { IsOk result ↔ (length (in_lines self.old.lines
             (encoding_of E.end E.table E.PADDED (whole_groups (self.old.taken ++ buf.now)))) ≤ self.old.room) }
         ensures err { IfErr result (λ e. error_kind e ≡ InvalidData) }

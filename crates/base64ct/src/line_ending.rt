@@ -3,19 +3,28 @@
 
 ghost use Rattle.std.specs.Prelude.{◌≡◌, length};
 ghost use Rattle.base64ct.specs.Wrapping.{ending_bytes};
+ghost use Rattle.base64ct.specs.declared.line_ending.LineEnding.TheVariants.{LF};
 
 /// What parts two lines.
-#[derive(Clone, Copy, Debug, Default, PartialEq, Eq, PartialOrd, Ord)]
+#[derive(Clone, Copy, Debug, PartialEq, Eq, PartialOrd, Ord)]
 pub enum LineEnding {
     /// Carriage return: `\r`.
     CR,
 
     /// Line feed: `\n`.
-    #[default]
     LF,
 
     /// Carriage return and line feed: `\r\n`.
     CRLF,
+}
+
+/// A line feed, on every machine.
+impl Default for LineEnding {
+    ghost is_default = { λ ending. ending ≡ LF };
+
+    fn default() -> LineEnding {
+        Self::LF
+    }
 }
 
 impl LineEnding {

@@ -7,6 +7,9 @@ ghost use Rattle.base64ct.specs.LineWrapper.{wrapped_from, left_from};
 
 use crate::line_ending::LineEnding;
 
+/// The least width of a line.
+pub(crate) const MIN_LINE_WIDTH: usize = 4;
+
 /// The length of so many characters in lines, of which none exceeds `width`: the room that an encoder needs.
 /// `None` tells that it exceeds `usize`.
 pub fn wrapped_len(width: usize, ending: LineEnding, characters: usize) -> Option<usize>

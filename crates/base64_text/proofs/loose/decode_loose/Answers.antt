@@ -7,6 +7,7 @@ use Rattle.base64_alphabet.specs.Encoding.{bytes_of_blocks}
 use Rattle.base64_text.specs.Canonical.{all_pads}
 use Rattle.base64_text.proofs.LooseLemmas.{clean_parts, loose_parts, unpadded_le}
 use Rattle.base64_text.proofs.WholeLemmas.{written_text}
+use Rattle.base64_text.proofs.RestLemmas.{rest_kept}
 use Rattle.base64_text.proofs.loose.decode_loose.Goals as goal
 
 pub returns-clause-clean : goal.returns-clause-clean
@@ -43,3 +44,16 @@ returns-clause-written g c clean =
     (c.args.u / 4) (3 * (c.args.u % 4) / 4) (omega arith) (omega arith) (c.decode_blocks-good.ensures.written two.0) c.copy_from_slice.ensures.after len
     ∙ ap (λ (xs : List ℕ). bytes_of_blocks g.E.Alphabet.end g.E.Alphabet.table (take (4 * (c.args.u / 4)) c.args.src.now) ++ xs) written
     ∙ sym (loose_parts g.E.Alphabet.end g.E.Alphabet.table c.args.src.now g.E.Alphabet.PADDED c.args.u (slice_range c.args.src.now (4 * (c.args.u / 4)) c.args.u) c.requires.unpadded cut)
+
+pub returns-clause-rest : goal.returns-clause-rest
+returns-clause-rest g c =
+    let le = unpadded_le g.E.Alphabet.PADDED c.args.src.now in
+    let is = c.requires.unpadded in
+    let room = c.requires.room in
+    let kept = c.decode_blocks-good.auto.dst in
+    let front : length (take (4 * (c.args.u / 4)) c.args.src.now) ≡ 4 * (c.args.u / 4) = length-take-le (4 * (c.args.u / 4)) c.args.src.now (omega arith) in
+    let at : 3 * (length (take (4 * (c.args.u / 4)) c.args.src.now) / 4) ≡ 3 * (c.args.u / 4) = omega arith in
+    let len : length (take (3 * (c.args.u % 4) / 4) c.decode_rest-rest_good.result.0) ≡ 3 * (c.args.u % 4) / 4 = length-take-le (3 * (c.args.u % 4) / 4) c.decode_rest-rest_good.result.0 (omega arith) in
+    rest_kept c.args.dst.now c.decode_blocks-good.new.dst c.copy_from_slice.new.self (3 * (c.args.u / 4)) _ _
+    (subst (λ (i : ℕ). drop i c.decode_blocks-good.new.dst ≡ drop i c.args.dst.now) at c.decode_blocks-good.ensures.rest) (omega arith)
+    (ap length c.copy_from_slice.ensures.after ∙ len ∙ omega arith) (omega arith)

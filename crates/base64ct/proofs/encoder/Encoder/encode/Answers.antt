@@ -1,6 +1,6 @@
-use Rattle.std.proofs.Common.{arith, ◌≡◌, length, true, false, refl}
+use Rattle.std.proofs.Common.{arith, sym, ◌∙◌, ◌≡◌, length, true, false, refl}
 use Rattle.base64_alphabet.proofs.TableLemmas.{facts}
-use Rattle.base64ct.proofs.WrittenLemmas.{block_size, count_low, encode_placed, encoded, groups_len}
+use Rattle.base64ct.proofs.WrittenLemmas.{block_size, count_low, encode_placed, encoded, groups_len, position_is}
 use Rattle.base64ct.proofs.encoder.Encoder.encode.Goals as goal
 
 pub overflow_add-count : goal.overflow_add-count
@@ -44,3 +44,14 @@ returns-clause-fits g c =
     c.self.invariant c.self.told.1 in
     let some = c.in-Some.ensures.some in
     rw (← c.self.view_is) (λ (h : true ≡ true). omega (arith, len, some.0, some.1), λ h. refl)
+
+pub returns-clause-behind : goal.returns-clause-behind
+returns-clause-behind g c =
+    let r = encoded g.E.Alphabet.end g.E.Alphabet.table g.E.Alphabet.PADDED c.self.inside.wrapper c.settle-self-inside.result c.self.inside.output.now c.encode_groups.new.out c.settle-self-inside.new.out
+    c.self.inside.filled _ c.in-Some.end c.self.inside.count c.self.inside.block c.encode_groups.new.block c.args.input.now (facts g.E.Alphabet.table g.met.E.Alphabet.lawful) c.self.invariant
+    c.self.told.1 c.encode_groups.ensures.bytes c.in-Some.ensures.some.1 c.in-Some.ensures.some.0 refl c.encode_groups.ensures.text c.settle-self-inside.ensures.text c.settle-self-inside.ensures.next
+    c.encode_groups.ensures.rest in
+    let after = groups_len g.E.Alphabet.end g.E.Alphabet.table g.E.Alphabet.PADDED c.self.inside.output.now c.self.inside.block c.args.input.now c.self.inside.wrapper c.self.inside.filled c.self.inside.count
+    c.self.invariant c.self.told.1 ∙ sym c.in-Some.ensures.some.0 in
+    let before = position_is g.E.Alphabet.end g.E.Alphabet.table g.E.Alphabet.PADDED c.self.inside.output.now c.self.inside.block c.self.inside.wrapper c.self.inside.filled c.self.inside.count c.self.invariant c.self.told.1 in
+    rw (← c.self.view_is) (rw (after, before) r.behind)

@@ -1,10 +1,10 @@
-use Rattle.std.proofs.Common.{arith, ◌≡◌, ℕ, Bool, ◌+◌, ◌-◌, ◌*◌, ◌/◌, ◌%◌, true, false, refl, sym, ◌∙◌, ap, subst, IsAscii}
+use Rattle.std.proofs.Common.{arith, length, ◌≡◌, ℕ, Bool, ◌+◌, ◌-◌, ◌*◌, ◌/◌, ◌%◌, true, false, refl, sym, ◌∙◌, ap, subst, IsAscii}
 use Rattle.base64_alphabet.proofs.TableLemmas.{facts}
 use Rattle.base64_text.specs.Counts.{encoded_len}
 use Rattle.base64ct.specs.Encoder.{in_lines_len}
 use Rattle.base64ct.specs.LineWrapper.{lines_of}
 use Rattle.base64ct.specs.Written.{taken_of}
-use Rattle.base64ct.proofs.WrittenLemmas.{finish_len, finish_size, finished, lines_ascii, placed, taken_bytes}
+use Rattle.base64ct.proofs.WrittenLemmas.{behind_of, finish_len, finish_size, finished, lines_ascii, placed, position_is, taken_bytes}
 use Rattle.base64ct.proofs.encoder.Encoder.finish_with_remaining.Goals as goal
 
 pub returns-in_default-clause-fits : goal.returns-in_default-clause-fits
@@ -54,3 +54,15 @@ returns-clause-fits g c =
     ∙ ap (λ (k : ℕ). in_lines_len (lines_of c.self.inside.wrapper) (4 * (c.self.inside.count / 3) + k)) (sym more) in
     let some = c.in-Some.ensures.some in
     rw (← c.self.view_is) (λ (h : true ≡ true). omega (arith, len, some.0, some.1), λ h. refl)
+
+pub returns-clause-rest : goal.returns-clause-rest
+returns-clause-rest g c =
+    let some = c.in-Some.ensures.some in
+    let size = finish_size c.self.inside.wrapper c.self.inside.output.now c.encode_front.new.dst c.in-Some.end c.rest_len-more.result c.self.inside.count some.1 some.0 c.encode_front.auto.dst in
+    let p = placed g.E.Alphabet.end g.E.Alphabet.table c.self.inside.output.now c.encode_front.new.dst c.self.inside.wrapper c.self.inside.filled c.self.inside.count
+    (c.in-Some.end - c.rest_len-more.result) c.in-Some.end c.self.invariant some.1
+    (some.0 ∙ ap (λ (k : ℕ). in_lines_len (lines_of c.self.inside.wrapper) (4 * (c.self.inside.count / 3) + k)) (sym size)) (ap (λ (k : ℕ). c.in-Some.end - k) (sym size)) in
+    let before = position_is g.E.Alphabet.end g.E.Alphabet.table g.E.Alphabet.PADDED c.self.inside.output.now c.self.inside.block c.self.inside.wrapper c.self.inside.filled c.self.inside.count c.self.invariant (omega arith) in
+    let text : length c.ascii_text.result.now ≡ c.in-Some.end = ap length c.ascii_text.ensures ∙ c.split_at_mut-text.ensures.front_len in
+    let rest = behind_of c.self.inside.output.now c.encode_front.new.dst c.settle.new.out c.self.inside.wrapper c.self.inside.filled _ c.in-Some.end p (c.settle.auto.out ∙ p.at.len) in
+    rw (← c.self.view_is) (rw (text, before) (c.split_at_mut-text.ensures.back ∙ rest))
