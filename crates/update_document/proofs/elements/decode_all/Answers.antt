@@ -1,7 +1,7 @@
 use Rattle.std.proofs.Common.{◌≡◌, ◌∷◌, ◌++◌, [], rules}
-use Rattle.der_lists.proofs.Reading.{front_shorter, no_elements, one_read}
+use Rattle.update_document.proofs.ElementsReading.{front_shorter, no_elements, one_read}
 use Rattle.der_core.specs.SequenceLaws.{unless}
-use Rattle.der_lists.proofs.elements.decode_all.Goals as goal
+use Rattle.update_document.proofs.elements.decode_all.Goals as goal
 
 pub returns-in_default-clause-none : goal.returns-in_default-clause-none
 returns-in_default-clause-none g c = λ _ values are.

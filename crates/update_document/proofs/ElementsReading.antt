@@ -3,8 +3,8 @@ use Rattle.std.proofs.Common.{◌≡◌, ℕ, ◌+◌, ◌<◌, List, [], ◌∷
 use Rattle.der_core.specs.Decode.{Front, NoFront}
 use Rattle.der_core.specs.Der.{IsValue}
 use Rattle.der_core.specs.SequenceLaws.{then_same, then_none}
-use Rattle.der_lists.specs.Elements.{Elements}
-use Rattle.der_lists.specs.ElementsLaws.{not_empty}
+use Rattle.update_document.specs.Elements.{Elements}
+use Rattle.update_document.specs.ElementsLaws.{not_empty}
 
 some_length : (s : List ℕ) → (s ≡ [] → ⊥) → 0 < length s
 some_length [] n = absurd (n refl)

@@ -6,7 +6,7 @@ use Rattle.der_core.specs.Decode.{ReadsTagged-one_value}
 use Rattle.der_core.specs.SequenceLaws.{ReadsOne, then_same, front_fits, rest_fits}
 use Rattle.der_core.specs.ValueLaws.{same_value}
 use Rattle.der_core.specs.Tags.{tag_48}
-use Rattle.der_lists.specs.Elements.{Elements, ReadsList}
+use Rattle.update_document.specs.Elements.{Elements, ReadsList}
 use Rattle.der_core.specs.Readings.{AreReadBack, AreWritten}
 
 abbrev HasByte : List ℕ → Type 0

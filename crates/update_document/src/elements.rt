@@ -1,6 +1,6 @@
 //! Reading a SEQUENCE OF.
 ghost use Rattle.std.specs.Prelude.{◌≡◌, ◌⊎◌, List, IfOk, IfErr, IsErrOf};
-ghost use Rattle.der_lists.specs.Elements.{Elements};
+ghost use Rattle.update_document.specs.Elements.{Elements};
 
 use der_small::{Cursor, Decode, Error, Result};
 use std::alloc::Global;

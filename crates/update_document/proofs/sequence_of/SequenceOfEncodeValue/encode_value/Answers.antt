@@ -1,8 +1,8 @@
 -- A refusal of one element is one of the list.
 use Rattle.std.proofs.Common.{rules, take, drop, ◌+◌}
 use Rattle.std.specs.List.{flat_map}
-use Rattle.der_lists.proofs.Writing.{behind_element, element_refused}
-use Rattle.der_lists.proofs.sequence_of.SequenceOfEncodeValue.encode_value.Goals as goal
+use Rattle.update_document.proofs.ElementsWriting.{behind_element, element_refused}
+use Rattle.update_document.proofs.sequence_of.SequenceOfEncodeValue.encode_value.Goals as goal
 
 pub returns-in_err-encode-clause-wrote : goal.returns-in_err-encode-clause-wrote
 returns-in_err-encode-clause-wrote g c =

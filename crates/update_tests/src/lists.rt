@@ -1,8 +1,7 @@
-use super::visit::Visit;
-use der_lists::laws::lists_are_written;
-use der_lists::{SequenceOf, decode_all};
-use der_small::{Decode, Encode, Error, ObjectIdentifier, OctetStringRef, Utf8Ref};
+use der_small::{Encode, Error, OctetStringRef};
 use std::test::Fail;
+use update_document::laws::lists_are_written;
+use update_document::{SequenceOf, decode_all};
 
 // Encodings by X.690, 8.9 and 8.10, worked out by hand.
 #[test]
@@ -46,22 +45,6 @@ fn long_list(rt: HostRuntime) -> Result<(), Fail> {
     let encoding = SequenceOf(numbers.as_slice()).to_der(rt.alloc())?;
     assert!(rt; encoding.starts_with(&[0x30, 0x82, 0x23, 0x28, 2, 1, 5]));
     assert_eq!(rt; decode_all::<u8>(rt.alloc(), &encoding[4..])?, numbers);
-    Ok(())
-}
-
-#[test]
-fn values_of_three_fields(rt: HostRuntime) -> Result<(), Fail> {
-    let visit = Visit {
-        place: ObjectIdentifier::new("2.999")?,
-        guest: Utf8Ref::new("a")?,
-        proof: OctetStringRef::new(&[9])?,
-    };
-    let encoding = visit.to_der(rt.alloc())?;
-    assert_eq!(rt;
-        encoding.as_slice(),
-        [0x30, 10, 6, 2, 0x88, 0x37, 0x0c, 1, 0x61, 4, 1, 9].as_slice()
-    );
-    assert_eq!(rt; Visit::from_der(&encoding)?, visit);
     Ok(())
 }
 

@@ -1,7 +1,7 @@
 use Rattle.std.proofs.Common.{arith, refl}
 use Rattle.std.specs.List.{flat_map}
-use Rattle.der_lists.proofs.Writing.{front_le, element_too_long}
-use Rattle.der_lists.proofs.sequence_of.SequenceOfEncodeValue.value_len.Goals as goal
+use Rattle.update_document.proofs.ElementsWriting.{front_le, element_too_long}
+use Rattle.update_document.proofs.sequence_of.SequenceOfEncodeValue.value_len.Goals as goal
 
 pub returns-in_err-more : goal.returns-in_err-more
 returns-in_err-more g c =
