@@ -8,3 +8,4 @@ pub mod Owned
 pub mod Encoded
 pub mod Decimals
 pub mod Texts
+pub mod Compared

@@ -1,9 +1,12 @@
 -- The orders of DER.
-use Rattle.std.specs.Prelude.{◌≡◌, ℕ, ◌^◌, ◌&&◌, List, length, nat_lt, if◌then◌else◌, Option, Some, None, Result, Ok, Err}
-use Rattle.std.specs.Ordering.{nat_cmp}
+use Rattle.std.specs.Prelude.{◌≡◌, ℕ, ◌^◌, ◌&&◌, List, ◌++◌, length, nat_lt, if◌then◌else◌, Option, Some, None, Result, Ok, Err}
+use Rattle.std.specs.Hash as fed
+use Rattle.std.specs.Hash.{HashWrites}
+use Rattle.std.specs.Ordering.{nat_cmp, ordering_then}
 use Rattle.std.specs.Cmp.Lexicographic.{slice_cmp}
 use Rattle.std.specs.declared.cmp.Ordering.{Ordering}
 use Rattle.std.specs.declared.cmp.Ordering.TheVariants.{Less, Equal, Greater}
+use Rattle.der_core.specs.Any.{PlainAny}
 use Rattle.der_core.specs.declared.error.Error.{Error}
 use Rattle.der_core.specs.declared.error.Error.TheVariants as error
 
@@ -40,3 +43,17 @@ option_order order None None = Some Equal
 option_order order None (Some b) = Some Less
 option_order order (Some a) None = Some Greater
 option_order order (Some a) (Some b) = order a b
+
+-- The order of std's lists of bytes, and what a hasher is fed of one.
+abbrev pub bytes_order : List ℕ → List ℕ → Ordering
+bytes_order a b = slice_cmp nat_cmp a b
+
+abbrev pub bytes_hashed : List ℕ → HashWrites
+bytes_hashed bytes = fed.slice fed.u8 bytes
+
+-- A value of any tag: by its tag, and then by its content.
+abbrev pub any_order : PlainAny → PlainAny → Ordering
+any_order a b = ordering_then (nat_cmp a.tag b.tag) (bytes_order a.content b.content)
+
+abbrev pub any_hashed : PlainAny → HashWrites
+any_hashed v = fed.u8 v.tag ++ bytes_hashed v.content

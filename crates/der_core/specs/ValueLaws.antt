@@ -1,5 +1,5 @@
 -- The value at the front of bytes is one: what is read from an encoding, and what was read is an encoding.
-use Rattle.std.proofs.Common.{◌≡◌, ℕ, ◌%◌, ◌^◌, ◌<◌, ◌≤◌, List, [], ◌∷◌, ◌++◌, length, take, drop, true, ltb, Option, Some, None, refl, ap, sym, ◌∙◌, inl, inr, arith, length-append, IfSome, IfNone, option_map}
+use Rattle.std.proofs.Common.{◌≡◌, ℕ, ◌%◌, ◌^◌, ◌<◌, ◌≤◌, List, [], ◌∷◌, ◌++◌, length, take, drop, true, ltb, Option, Some, None, refl, ap, sym, ◌∙◌, get_or, inl, inr, arith, length-append, IfSome, IfNone, option_map}
 use Rattle.std.proofs.lemmas.Bool.{lt-ltb, le-ltb, ltb-true, ltb-false, cases_lt, and_parts, and_from}
 use Rattle.std.proofs.lemmas.Option.{same_Some, none-some}
 use Rattle.std.proofs.lemmas.List.{length-take-le, take-append-drop}
@@ -147,6 +147,15 @@ same_value tag content rest tag' content' rest' t f t' f' e =
       contents = ap (λ (p : ℕ × List ℕ × List ℕ). p.1) parts;
       rests = ap (λ (p : ℕ × List ℕ × List ℕ). p.2) parts;
     }
+
+-- Encodings that are the same are those of one tag and one content, also where they are too long to be written.
+pub encode_same : (tag tag' : ℕ) (content content' : List ℕ) → length content < 2 ^ 32 → length content' < 2 ^ 32 →
+    encode tag content ≡ encode tag' content' → (tag ≡ tag') × (content ≡ content')
+unfolding encode
+encode_same tag tag' content content' fits fits' e =
+    let behind : length_bytes (length content) ++ content ≡ length_bytes (length content') ++ content' = ap (λ (s : List ℕ). drop 1 s) e in
+    let parts = same_Some _ _ (sym (read_length_again (length content) content fits) ∙ ap read_length behind ∙ read_length_again (length content') content' fits') in
+    (ap (λ (s : List ℕ). get_or s 0 0) e, ap (λ (p : ℕ × List ℕ). p.1) parts)
 
 -- Two values that begin the same bytes are one.
 pub values_unique : (b x c y : List ℕ) → IsValue b → IsValue c → b ++ x ≡ c ++ y → (b ≡ c) × (x ≡ y)

@@ -13,7 +13,7 @@
 //! assert!(cursor.is_finished());
 //! ```
 //!
-//! `der_lists` has a type of three fields, read and written, as an example of a type of one's own.
+//! `crates/der_tests/src/visit.rt` has a type of three fields, read and written, as an example of a type of one's own.
 #![tactic(auto)]
 
 mod any;

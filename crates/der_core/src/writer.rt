@@ -1,5 +1,7 @@
 //! What bytes are written to.
 ghost use Rattle.std.specs.Prelude.{◌≡◌, ◌++◌, ◌≤◌, ℕ, List, [], Option as Maybe, Some, None, IfErr, is_ok, if◌then◌else◌};
+ghost use Rattle.identity_io.specs.Causes.{Rose};
+ghost use Rattle.identity_io.specs.Memory.{one_more};
 ghost use Rattle.der_core.specs.declared.error.Error.{Error as DerError};
 ghost use Rattle.der_core.specs.declared.error.Error.TheVariants as error;
 ghost use Rattle.der_core.specs.Encode.{Refused};
@@ -39,7 +41,8 @@ pub struct VecWriter {
 impl VecWriter {
     /// A writer behind the bytes of this vector.
     pub fn behind(bytes: Vec<u8>) -> Self
-        ensures { result.bytes ≡ bytes }
+        ensures kept { result.bytes ≡ bytes }
+        ensures none { result.refusals ≡ 0 }
     {
         VecWriter { bytes, refusals: 0 }
     }
@@ -52,7 +55,12 @@ impl Writer for VecWriter {
 
     ghost last_refusal = { λ _. Some error.OutOfMemory };
 
-    fn write(&mut self, slice: &[u8]) -> Result<(), Error> {
+    fn write(&mut self, slice: &[u8]) -> Result<(), Error>
+        ensures told { self.new.bytes.items ≡ (if is_ok result then self.old.bytes.items ++ slice.now else self.old.bytes.items) }
+        ensures count { self.old.refusals ≤ self.new.refusals }
+        ensures refused { IfErr result (λ e. (e ≡ Error.OutOfMemory) × Rose self.old.refusals self.new.refusals) }
+        ensures refusals { self.new.refusals ≡ (if is_ok result then self.old.refusals else one_more self.old.refusals) }
+    {
         if self.bytes.extend_from_slice(slice).is_ok() {
             return Ok(());
         }

@@ -1,6 +1,7 @@
 -- What the contracts of this crate cite.
 pub mod Bits
 pub mod BitString
+pub mod BitsOrder
 pub mod OctetString
 pub mod Utf8
 pub mod Document
@@ -8,6 +9,7 @@ pub mod Files
 pub mod OneValue
 pub mod SecretDocument
 pub use Rattle.identity_io.specs.Causes
+pub use Rattle.identity_io.specs.Comparisons
 pub use Rattle.der_core.specs.Any
 pub use Rattle.der_core.specs.Arcs
 pub use Rattle.der_core.specs.Cursor

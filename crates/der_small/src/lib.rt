@@ -17,6 +17,7 @@
 mod bit_string;
 mod document;
 mod file;
+pub mod laws;
 mod octet_string;
 mod secret_document;
 mod threads;
@@ -26,7 +27,7 @@ pub use bit_string::{BitString, BitStringRef};
 pub use der_core::{
     Any, AnyRef, Arcs, Choice, Cursor, Decode, DecodeValue, DerOrd, Encode, EncodeValue, Error,
     FixedTag, Lawful, LawfulValue, Length, ObjectIdentifier, Result, Tag, ValueOrd, VecWriter,
-    Writer, encode_tagged, field_at, laws, tagged_len,
+    Writer, encode_tagged, field_at, tagged_len,
 };
 pub use document::Document;
 pub use octet_string::{OctetString, OctetStringRef};

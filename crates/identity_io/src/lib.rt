@@ -14,6 +14,7 @@
 #![tactic(auto)]
 
 mod disk;
+pub mod laws;
 mod memory_disk;
 mod memory_sink;
 mod memory_source;

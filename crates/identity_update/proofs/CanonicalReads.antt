@@ -5,7 +5,7 @@ use Rattle.std.specs.Str.{IsUtf8}
 use Rattle.der_core.specs.Der.{IsTag, encode}
 use Rattle.der_core.specs.Laws.{content_fits}
 use Rattle.der_core.specs.SequenceLaws.{front_fits, rest_fits}
-use Rattle.der_lists.specs.Elements.{Elements}
+use Rattle.update_document.specs.Elements.{Elements}
 use Rattle.der_small.specs.Bits.{AreBits, BitsContent, PlainBits}
 use Rattle.spiffe_id.specs.SpiffeId.{id_text}
 use Rattle.spki.specs.PlainAlgorithm.{IsAlgorithm}

@@ -18,10 +18,9 @@ use crate::error::UpdateError;
 use crate::members::check_members;
 use crate::update::Update;
 use der_core::Encode;
-use der_lists::SequenceOf;
 use der_small::Utf8Ref;
 use std::alloc::Global;
-use update_document::WrittenDocument;
+use update_document::{SequenceOf, WrittenDocument};
 
 /// A reason has 1 to 255 bytes.
 pub(crate) fn check_reason(reason: &str) -> Result<Utf8Ref<'_>, UpdateError>

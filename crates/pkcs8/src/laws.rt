@@ -2,6 +2,7 @@
 ghost use Rattle.std.specs.Prelude.{◌≡◌, ◌↔◌, ◌<◌, ◌^◌, ℕ, nat_eq, List, length, true, IsSome};
 ghost use Rattle.std.specs.Bool.{Decides};
 ghost use Rattle.std.specs.Cmp.Lexicographic.{pointwise};
+ghost use Rattle.identity_io.specs.Comparisons.{AreCopiesSame};
 ghost use Rattle.der_core.specs.declared.any.Any.{Any as AnyValue};
 ghost use Rattle.der_core.specs.declared.any.AnyRef.{AnyRef as AnyRefValue};
 ghost use Rattle.der_small.specs.declared.bit_string.BitString.{BitString as BitsValue};
@@ -9,7 +10,6 @@ ghost use Rattle.der_small.specs.declared.bit_string.BitStringRef.{BitStringRef 
 ghost use Rattle.der_small.specs.declared.octet_string.OctetString.{OctetString as OctetsValue};
 ghost use Rattle.der_small.specs.declared.octet_string.OctetStringRef.{OctetStringRef as OctetsRefValue};
 ghost use Rattle.der_core.specs.Readings.{AreReadBack};
-ghost use Rattle.spki.specs.Copies.{AreCopiesSame};
 ghost use Rattle.pkcs8.specs.Attributes.{attributes_bytes, attributes_bytes_ref};
 ghost use Rattle.pkcs8.specs.PlainPrivateKey.{PlainPrivateKey, ReadsPrivateKey, private_key_der, plain_private_key, plain_private_key_ref};
 ghost use Rattle.pkcs8.specs.Same.{same_private_key};

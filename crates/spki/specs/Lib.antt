@@ -3,7 +3,7 @@ pub mod Algorithm
 pub mod AlgorithmLaws
 pub mod AlgorithmOids
 pub mod Answers
-pub mod Copies
+pub mod WrittenAlike
 pub mod Error
 pub mod Fingerprint
 pub mod Identifier

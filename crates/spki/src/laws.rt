@@ -2,6 +2,7 @@
 ghost use Rattle.std.specs.Prelude.{◌≡◌, ℕ, ◌++◌, ◌&&◌, List, Option, Result as Answer, Ok, true, IsOkAnd, IsSomeAnd};
 ghost use Rattle.std.specs.Bool.{Decides};
 ghost use Rattle.std.specs.Ordering.{ordering_then};
+ghost use Rattle.identity_io.specs.Comparisons.{AreCopiesSame};
 ghost use Rattle.der_core.specs.Any.{PlainAny, plain_any, plain_ref};
 ghost use Rattle.der_core.specs.ObjectIdentifier.{oid_content};
 ghost use Rattle.der_core.specs.declared.any.Any.{Any as AnyValue};
@@ -13,7 +14,7 @@ ghost use Rattle.der_small.specs.declared.bit_string.BitStringRef.{BitStringRef 
 ghost use Rattle.der_small.specs.Bits.{PlainBits};
 ghost use Rattle.sha2.specs.Sha256.{sha256};
 ghost use Rattle.spki.specs.AlgorithmOids.{ParametersOid, AreOids};
-ghost use Rattle.spki.specs.Copies.{AreCopiesSame, AreWrittenAlike};
+ghost use Rattle.spki.specs.WrittenAlike.{AreWrittenAlike};
 ghost use Rattle.spki.specs.PlainAlgorithm.{PlainAlgorithm, plain_algorithm};
 ghost use Rattle.spki.specs.PlainPublicKey.{PlainPublicKey, plain_public_key, plain_public_key_ref, public_key_der};
 ghost use Rattle.spki.specs.PublicKey.{public_key_encoding};

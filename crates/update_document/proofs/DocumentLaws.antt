@@ -9,7 +9,7 @@ use Rattle.der_core.specs.Der.{IsTag, encode}
 use Rattle.der_core.specs.Sequence.{Then}
 use Rattle.der_core.specs.Tags.{tag_48}
 use Rattle.der_core.specs.ValueLaws.{same_value}
-use Rattle.der_lists.specs.Elements.{Elements, ReadsList}
+use Rattle.update_document.specs.Elements.{Elements, ReadsList}
 use Rattle.update_document.specs.Document.{DocumentContent, DocumentOf, IsReasonText, ReadsDocument, ReadsReason}
 
 pub tag_128 : IsTag 128

@@ -13,7 +13,7 @@ use Rattle.pkcs8.specs.PlainPrivateKey.{PlainPrivateKey, ReadsPrivateKey, bits_c
 use Rattle.pkcs8.specs.PrivateKey.{AfterAttributes, AfterKey, attributes_tag, fields_written, optional_field, public_key_tag}
 use Rattle.pkcs8.specs.Version.{version_byte, version_of}
 use Rattle.update_document.specs.Document.{ReadsReason}
-use Rattle.der_lists.specs.Elements.{Elements}
+use Rattle.update_document.specs.Elements.{Elements}
 use Rattle.update_document.specs.Spelling.{bundle_content, bundle_der, document_content, document_der, entry_content, entry_der, reason_der}
 use Rattle.update_document.specs.Written.{ReadsBundle, ReadsEntry, ReadsText, ReadsUpdate, WrittenBundle, WrittenEntry, WrittenUpdate}
 

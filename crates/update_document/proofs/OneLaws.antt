@@ -10,8 +10,8 @@ use Rattle.spki.specs.ReadLaws.{reads_one_public_key}
 use Rattle.pkcs8.specs.PlainPrivateKey.{PlainPrivateKey, ReadsOctets, ReadsPrivateKey}
 use Rattle.pkcs8.specs.ReadLaws.{reads_one_private_key, same_contents}
 use Rattle.update_document.specs.Document.{DocumentContent, HasReason, ReadsReason}
-use Rattle.der_lists.specs.Elements.{ReadsList}
-use Rattle.der_lists.specs.ElementsLaws.{list_one, not_empty}
+use Rattle.update_document.specs.Elements.{ReadsList}
+use Rattle.update_document.specs.ElementsLaws.{list_one, not_empty}
 use Rattle.der_core.specs.Sequence.{Last, ThreeFields, TwoFields}
 use Rattle.update_document.specs.Written.{ReadsBundle, ReadsEntry, ReadsText, ReadsUpdate, WrittenBundle, WrittenEntry, WrittenUpdate}
 use Rattle.update_document.proofs.DocumentLaws.{tag_128}

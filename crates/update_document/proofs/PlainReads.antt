@@ -16,7 +16,7 @@ use Rattle.pkcs8.proofs.Owned.{HasOctetsRef, KeyContentRef, reads_plain}
 use Rattle.pkcs8.specs.PlainPrivateKey.{ReadsOctets, ReadsPrivateKey}
 use Rattle.update_document.specs.Document.{DocumentOf, ReadsDocument}
 use Rattle.update_document.specs.DocumentFields.{document_of}
-use Rattle.der_lists.specs.Elements.{Elements}
+use Rattle.update_document.specs.Elements.{Elements}
 use Rattle.der_core.specs.Sequence.{ThreeFields, TwoFields}
 use Rattle.update_document.specs.Refs.{BundleRef, EntryRef, written_bundle, written_entry, written_update}
 use Rattle.update_document.specs.Written.{ReadsBundle, ReadsEntry, ReadsText, ReadsUpdate, WrittenBundle, WrittenEntry}

@@ -3,7 +3,7 @@ use Rattle.std.specs.Prelude.{◌≡◌, ℕ, ◌≤◌, List, [], length, Optio
 use Rattle.std.specs.Str.{IsUtf8}
 use Rattle.der_core.specs.Decode.{ReadsTagged}
 use Rattle.der_core.specs.Sequence.{Then}
-use Rattle.der_lists.specs.Elements.{ReadsList}
+use Rattle.update_document.specs.Elements.{ReadsList}
 
 -- a text of 1 to 255 bytes
 pub record IsReasonText (text : List ℕ) : Type 0 where

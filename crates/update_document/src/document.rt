@@ -6,8 +6,8 @@ ghost use Rattle.der_small.specs.Utf8.{text_ref};
 ghost use Rattle.update_document.specs.Document.{DocumentContent, DocumentOf, IsReasonText, ReadsDocument, ReadsReason};
 ghost use Rattle.update_document.specs.DocumentFields.{document_of};
 
+use crate::decode_all;
 use der_core::{Decode, Error, Tag, field_at};
-use der_lists::decode_all;
 use der_small::Utf8Ref;
 use std::alloc::Global;
 use std::str;

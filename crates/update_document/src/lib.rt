@@ -7,15 +7,28 @@
 //! assert!(fields.entries.is_empty());
 //! assert_eq!(fields.reason, Some(Utf8Ref::new("gone")?));
 //! ```
+//!
+//! Its lists are values of one type (X.690, 8.10), whatever the type is. A content is read by `decode_all`, and the
+//! values of a slice are written by `SequenceOf`:
+//!
+//! ```text
+//! let numbers: Vec<u8> = decode_all(alloc, &[2, 1, 7, 2, 1, 9])?;
+//! let encoding = SequenceOf(numbers.as_slice()).to_der(alloc)?;
+//! assert_eq!(encoding.as_slice(), [0x30, 6, 2, 1, 7, 2, 1, 9]);
+//! ```
 #![tactic(auto)]
 
 mod document;
+mod elements;
 mod fields;
 pub mod laws;
+mod sequence_of;
 mod update;
 mod written_document;
 
 pub use document::{DocumentFields, read_document};
+pub use elements::decode_all;
 pub use fields::{BundleFields, EntryFields};
+pub use sequence_of::SequenceOf;
 pub use update::{BundleRef, EntryRef, UpdateFields, read_update};
 pub use written_document::WrittenDocument;

@@ -6,11 +6,11 @@ ghost use Rattle.der_core.specs.Tags.{tag_48};
 ghost use Rattle.der_small.specs.Utf8.{text_ref};
 ghost use Rattle.update_document.specs.Spelling.{fields_behind, reason_der};
 
+use crate::SequenceOf;
 use crate::document::REASON;
 use der_core::{
     Encode, EncodeValue, Error, FixedTag, Length, Tag, Writer, encode_tagged, tagged_len,
 };
-use der_lists::SequenceOf;
 use der_small::Utf8Ref;
 
 /// A document that is written of its list of entries, its bundles and its reason, whatever these are.

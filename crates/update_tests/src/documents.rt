@@ -1,9 +1,8 @@
 //! Documents of numbers in place of entries and bundles, put together by hand from X.690, and one update document, put together from the grammar by a few lines of Python over RFC 8410's keys.
 use crate::checks::{good, same, same_bytes};
 use der_core::{Encode, Error};
-use der_lists::SequenceOf;
 use der_small::Utf8Ref;
-use update_document::{WrittenDocument, read_document, read_update};
+use update_document::{SequenceOf, WrittenDocument, read_document, read_update};
 
 // The identity `spiffe://example.org/a` with an Ed25519 key pair, and a bundle of `example.org` without keys.
 const UPDATE: &[u8] =

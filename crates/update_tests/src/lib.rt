@@ -6,4 +6,6 @@ mod checks;
 #[cfg(test)]
 mod documents;
 #[cfg(test)]
+mod lists;
+#[cfg(test)]
 mod updates;

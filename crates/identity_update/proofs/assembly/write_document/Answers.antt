@@ -12,5 +12,5 @@ list_of-requires c =
 
 pub returns-clause-value : goal.returns-clause-value
 returns-clause-value c =
-    c.in-Ok.ensures.wrote.ok.1 [] (ap (λ v. v.items) c.behind-writer.ensures ∙ c.clear.ensures.items)
+    c.in-Ok.ensures.wrote.ok.1 [] (ap (λ v. v.items) c.behind-writer.ensures.kept ∙ c.clear.ensures.items)
     ∙ ap (λ (x : List ℕ). encode 48 x) (around c.list_of.result c.args.written.now c.args.bundles.now c.args.reason c.list_of.ensures)

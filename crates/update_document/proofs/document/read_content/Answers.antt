@@ -2,7 +2,7 @@ use Rattle.std.proofs.Common.{◌≡◌, refl, sym, ◌∙◌}
 use Rattle.der_core.specs.declared.error.Error.TheVariants as error
 use Rattle.std.proofs.lemmas.Result.{err_from_is_err_and}
 use Rattle.update_document.specs.Document.{ReadsReason}
-use Rattle.der_lists.specs.Elements.{ReadsList}
+use Rattle.update_document.specs.Elements.{ReadsList}
 use Rattle.der_core.specs.Sequence.{Then}
 use Rattle.update_document.proofs.DocumentLaws.{list_at, no_list, same_error}
 use Rattle.update_document.proofs.document.read_content.Goals as goal

@@ -1,3 +1,0 @@
--- Lemmas.
-pub mod Reading
-pub mod Writing

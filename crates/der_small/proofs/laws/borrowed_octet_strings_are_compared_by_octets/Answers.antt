@@ -1,0 +1,10 @@
+use Rattle.std.proofs.Common.{refl}
+use Rattle.der_core.proofs.Compared.{bytes_partial}
+use Rattle.der_small.proofs.Compared.{bytes_decide}
+use Rattle.der_small.proofs.laws.borrowed_octet_strings_are_compared_by_octets.Goals as goal
+
+pub returns-clause-equal : goal.returns-clause-equal
+returns-clause-equal c = λ a b. bytes_decide 4 a.bytes.now b.bytes.now a.small b.small
+
+pub returns-clause-order : goal.returns-clause-order
+returns-clause-order c = λ a b. (refl, bytes_partial a.bytes.now b.bytes.now)
