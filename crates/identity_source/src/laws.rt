@@ -1,6 +1,6 @@
 //! Laws of lists of states, each as the contract of a function that does no work.
 ghost use Rattle.std.specs.Prelude.{◌≡◌, ◌+◌, List, length};
-ghost use Rattle.identity_source.specs.History.{EndsWith, IsHistory, StartsWith, first_revision};
+ghost use Rattle.identity_source.specs.History.{EndsWith, IsHistory, StartsWith, first_revision, last_revision};
 ghost use Rattle.identity_source.specs.State.{PlainState};
 
 /// A list has one last state, and a revision names one state: where a list begins with another, and
@@ -15,5 +15,6 @@ pub fn states_are_told_by_revision()
 /// The last revision of a history counts its states. So of two histories under one name the longer one
 /// ends in the later revision.
 pub fn states_are_counted_by_revision()
-    ensures { (list : List PlainState) (x : PlainState) → IsHistory list → EndsWith list x → x.revision + 1 ≡ first_revision list + length list }
+    ensures count { (list : List PlainState) (x : PlainState) → IsHistory list → EndsWith list x → x.revision + 1 ≡ first_revision list + length list }
+    ensures last { (list : List PlainState) (x : PlainState) → EndsWith list x → last_revision list ≡ x.revision }
 {}
