@@ -39,9 +39,11 @@ looked a b x y told l r goes saw =
       renewed = record {
         name = goes.name;
         is_live = goes.is_live;
-        look = record { live = saw.live; rose = saw.rose; misses = saw.misses; refused = saw.refused; whole = whole };
+        olds = goes.olds;
+        look = record { live = saw.live; rose = saw.rose; misses = saw.misses; refused = saw.refused; whole = whole; told = subst (λ (z : List PlainState). EachBegins z a.olds) (sym whole) saw.all };
         begins = begins;
         history = subst IsHistory (sym whole) saw.history;
+        first = ap first_revision whole ∙ first;
       };
     }
 
@@ -88,9 +90,11 @@ missed a b x told l m r goes why =
       renewed = record {
         name = goes.name;
         is_live = goes.is_live;
+        olds = goes.olds;
         look = record { why = why; same = same };
         begins = subst (λ (z : List PlainState). StartsWith z (list_up_to a x told)) (sym same) (begins_self (list_up_to a x told));
         history = subst IsHistory (sym same) r.history;
+        first = ap first_revision same ∙ (r.own ∙ sym name);
       };
     }
 
@@ -109,6 +113,10 @@ pub record Heard (a b : Sight) (x : PlainState) (told : Option NamedList) (old :
 learned_is : (P : List PlainState → Type 0) (a b : Sight) (list : List PlainState) → Learned a b list → P a.seen → P list → (live : Bool) → a.is_live ≡ live → P b.seen
 learned_is P a b list l p q true e = subst P (sym (l.live e).seen) (either P a.seen list (nat_le (length a.seen) (length list)) p q)
 learned_is P a b list l p q false e = subst P (sym (l.dead e).seen) p
+
+-- what begins with all that was told begins with the reader's own list
+keeps_own : (a b : Sight) (x : PlainState) (told : Option NamedList) (list : List PlainState) → IsReader a x told → Learned a b list → a.is_live ≡ true → (xs : List PlainState) → EachBegins xs b.olds → StartsWith xs (list_up_to a x told)
+keeps_own a b x told list r l live xs olds = let o : EachBegins xs (a.seen ∷ list ∷ a.olds) = subst (EachBegins xs) (l.live live).olds olds in r.known live xs o.1.1 o.0
 
 -- the receipt is not of an earlier place
 heeds_later : (a b : Sight) (x y : PlainState) (told : Option NamedList) (look : Option Look) (h : NamedList) → IsReader a x told → Learned a b h.list → h.name ≡ a.name → IsHistory h.list → first_revision h.list ≡ h.name.first → EndsWith h.list y → x.revision ≤ y.revision
@@ -129,7 +137,17 @@ heeds_later a b x y told look h r l named history own last le =
         within = λ e. cc;
         known = λ live xs olds begins. (subst (EachBegins xs) (l.live (sym l.is_live ∙ live)).olds olds).1.0;
       };
-      heard = record { name = l.name; is_live = l.is_live; looks = l.looks; misses = l.misses; refused = l.refused; list = sym (longer_second (list_up_to a x told) h.list (omega arith)); look = refl };
+      heard = record {
+        name = l.name;
+        is_live = l.is_live;
+        looks = l.looks;
+        misses = l.misses;
+        refused = l.refused;
+        list = sym (longer_second (list_up_to a x told) h.list (omega arith));
+        look = refl;
+        learned = l;
+        keeps = keeps_own a b x told h.list r l;
+      };
     }
 
 seen_kept : (a b : Sight) (list : List PlainState) → Learned a b list → length list < length a.seen → (live : Bool) → a.is_live ≡ live → b.seen ≡ a.seen
@@ -180,7 +198,17 @@ heeds_earlier a b x y told look h r l named history own last lt =
         known = λ live xs olds begins. let o : EachBegins xs (a.seen ∷ h.list ∷ a.olds) = subst (EachBegins xs) (l.live (sym l.is_live ∙ live)).olds olds in
             subst (λ (z : List PlainState). StartsWith xs z) (sym same) (r.known (sym l.is_live ∙ live) xs o.1.1 o.0);
       };
-      heard = record { name = l.name; is_live = l.is_live; looks = l.looks; misses = l.misses; refused = l.refused; list = same ∙ sym (longer_first (list_up_to a x told) h.list shorter); look = refl };
+      heard = record {
+        name = l.name;
+        is_live = l.is_live;
+        looks = l.looks;
+        misses = l.misses;
+        refused = l.refused;
+        list = same ∙ sym (longer_first (list_up_to a x told) h.list shorter);
+        look = refl;
+        learned = l;
+        keeps = keeps_own a b x told h.list r l;
+      };
     }
 
 pub after : (old r s : PlainReader) → r ≡ old → Renewed r s → Renewed old s

@@ -4,18 +4,18 @@ use Rattle.identity_io.specs.Causes.{Rose}
 use Rattle.identity_source.specs.State.{PlainState}
 use Rattle.identity_source.specs.History.{IsHistory, StartsWith, EndsWith, EachBegins, first_revision}
 use Rattle.identity_source.specs.NamedList.{NamedList}
-use Rattle.identity_source.specs.Sight.{Sight, MissedBy, longer}
+use Rattle.identity_source.specs.Sight.{Sight, MissedBy, Learned, longer}
 use Rattle.identity_source.specs.declared.window.Missed.{Missed as Missed_why}
 use Rattle.identity_source.specs.declared.kept_reader.Look.{Look}
 use Rattle.identity_source.specs.declared.kept_reader.Look.TheVariants.{Looked, Missed}
 
--- its window, its prefix of the source's list, and how its last call of `current` came to its answer
+-- its window, its list, and how its last call of `current` came to its answer
 pub record PlainReader : Type 0 where
   pub sight : Sight
   pub list : List PlainState
   pub look : Option Look
 
--- a reader as `open` hands it out: its prefix is the source's list, and it was asked nothing yet
+-- a reader as `open` hands it out: its list is the source's, and it was asked nothing yet
 pub record IsFresh (source : NamedList) (r : PlainReader) : Type 0 where
   pub name : r.sight.name ≡ source.name
   pub list : r.list ≡ source.list
@@ -26,15 +26,16 @@ pub record IsFresh (source : NamedList) (r : PlainReader) : Type 0 where
   pub refused : r.sight.refused ≡ 0
   pub look : r.look ≡ None
 
--- the window gave the last state of all that it has seen, and of its counts that of looks alone rose
+-- the window gave the last state of all that it has seen, which begins with each list that the reader was told of; of its counts that of looks alone rose
 pub record LookedAt (a b : PlainReader) : Type 0 where
   pub live : a.sight.is_live ≡ true
   pub rose : Rose a.sight.looks b.sight.looks
   pub misses : b.sight.misses ≡ a.sight.misses
   pub refused : b.sight.refused ≡ a.sight.refused
   pub whole : b.list ≡ b.sight.seen
+  pub told : EachBegins b.list a.sight.olds
 
--- the window missed, and the prefix stays
+-- the window missed, and the list stays
 pub record MissedAt (a b : PlainReader) (missed : Missed_why) : Type 0 where
   pub why : MissedBy a.sight b.sight missed
   pub same : b.list ≡ a.list
@@ -44,15 +45,17 @@ LookSays a b None = ⊥
 LookSays a b (Some Looked) = LookedAt a b
 LookSays a b (Some (Missed missed)) = MissedAt a b missed
 
--- what `current` does to the reader: its name stays, its prefix goes on or stays, and `look` says why
+-- what `current` does to the reader: its name and what it was told of stay, its list goes on or stays, and `look` says why; the list is a history from the source's first revision
 pub record Renewed (a b : PlainReader) : Type 0 where
   pub name : b.sight.name ≡ a.sight.name
   pub is_live : b.sight.is_live ≡ a.sight.is_live
+  pub olds : b.sight.olds ≡ a.sight.olds
   pub look : LookSays a b b.look
   pub begins : StartsWith b.list a.list
   pub history : IsHistory b.list
+  pub first : first_revision b.list ≡ b.sight.name.first
 
--- the reader was told of the list: the longer of the two becomes its prefix
+-- the reader was told of a list: the longer of the two becomes its own, and what begins with all that it was told of begins with its own list of before
 pub record Told (a b : PlainReader) (told : List PlainState) : Type 0 where
   pub name : b.sight.name ≡ a.sight.name
   pub is_live : b.sight.is_live ≡ a.sight.is_live
@@ -61,6 +64,8 @@ pub record Told (a b : PlainReader) (told : List PlainState) : Type 0 where
   pub refused : b.sight.refused ≡ a.sight.refused
   pub list : b.list ≡ longer a.list told
   pub look : b.look ≡ a.look
+  pub learned : Learned a.sight b.sight told
+  pub keeps : a.sight.is_live ≡ true → (xs : List PlainState) → EachBegins xs b.sight.olds → StartsWith xs a.list
 
 -- the receipt's list where the kept state came from one, else the part of the window's list that ends in the kept state
 abbrev pub list_up_to : Sight → PlainState → Option NamedList → List PlainState

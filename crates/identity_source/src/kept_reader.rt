@@ -18,7 +18,8 @@ pub enum Look {
 
 /// A reader that keeps the last state that it gave or was told of, so that it always has an answer and never goes back.
 ///
-/// Contracts see its window and its prefix of the source's list, whose last state is the kept one.
+/// Contracts see its window and its list: a history from the source's first revision, whose last state is
+/// the kept one. Where the window saw, it begins with the list of each receipt that the reader was told of.
 #[derive(Drop)]
 pub struct KeptReader<W: Window> {
     window: W,

@@ -1,6 +1,6 @@
 //! Receipts.
-ghost use Rattle.std.specs.Prelude.{◌≡◌, IfOk};
-ghost use Rattle.identity_source.specs.History.{EndsWith, IsHistory, first_revision, last_revision};
+ghost use Rattle.std.specs.Prelude.{◌≡◌, IfOk, MatchBool};
+ghost use Rattle.identity_source.specs.History.{EndsWith, IsHistory, StartsWith, first_revision, last_revision};
 ghost use Rattle.identity_source.specs.NamedList.{IsListed};
 
 use crate::error::SourceError;
@@ -75,5 +75,14 @@ impl Receipt {
         ensures { EndsWith self.now.list result.now }
     {
         &self.snapshot
+    }
+
+    /// Of two receipts of one source, whether this one's list begins with the other's. If it does not, the other's begins with it.
+    pub fn covers(&self, other: &Receipt) -> bool
+        requires { other.now.name ≡ self.now.name }
+        ensures { MatchBool result (StartsWith self.now.list other.now.list) (StartsWith other.now.list self.now.list) }
+    {
+        let _ = &self.snapshot;
+        self.mark.covers(&other.mark)
     }
 }

@@ -29,8 +29,8 @@ impl<W: Window> KeptReader<W> {
         }
     }
 
-    /// One whole state of the source's list, never earlier than any that this reader gave or was told
-    /// of. It never waits and is never refused; `look` tells how it came to its answer.
+    /// One whole state, the last of the reader's list, never earlier than any that this reader gave or was
+    /// told of. It never waits and is never refused; `look` tells how it came to its answer.
     pub fn current(&mut self) -> &Snapshot
         ensures* { sem 𝓛 (follows_so (the_row W.row W.Window) (the_row W.row W.Window) self.entry.ghost_name none (λ _ _. ⊤)
             (λ n. Renewed self.old n × EndsWith n.list result.now)) }

@@ -1,6 +1,6 @@
 //! What the source does.
-ghost use Rattle.std.specs.Prelude.{◌≡◌, ◌+◌, IfErr, IfOk, OnErr, OnOk};
-ghost use Rattle.identity_source.specs.History.{EndsWith, IsHistory, last_revision};
+ghost use Rattle.std.specs.Prelude.{◌≡◌, ◌+◌, IfErr, IfOk, MatchBool, OnErr, OnOk};
+ghost use Rattle.identity_source.specs.History.{EndsWith, IsHistory, StartsWith, last_revision};
 ghost use Rattle.identity_source.specs.SourceParts.{IsSource};
 ghost use Rattle.identity_source.specs.State.{IsOpening};
 ghost use Rattle.identity_source.specs.Verdict.{IsNextState, Publishes, RefusesNext};
@@ -91,6 +91,14 @@ impl IdentitySource {
         ensures history { IsHistory self.now.list }
     {
         self.last.snapshot()
+    }
+
+    /// Whether the source's list begins with the receipt's. If it does not, the receipt's begins with the source's.
+    pub fn covers(&self, receipt: &Receipt) -> bool
+        requires { receipt.now.name ≡ self.now.name }
+        ensures { MatchBool result (StartsWith self.now.list receipt.now.list) (StartsWith receipt.now.list self.now.list) }
+    {
+        self.last.covers(receipt)
     }
 
     /// Ends the source and publishes nothing. It may wait for readers.

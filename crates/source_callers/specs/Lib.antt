@@ -1,0 +1,2 @@
+-- What the contracts of these callers cite.
+pub mod Told
