@@ -1,5 +1,6 @@
 -- The low bytes of what the passes add.
-use Rattle.std.proofs.Common.{◌≡◌, ℕ, suc, ◌+◌, ◌-◌, ◌/◌, ◌%◌, ◌<◌, ◌≤◌, Bool, true, false, ◌&&◌, ℤ, pos, negsuc, ◌+ℤ◌, ◌-ℤ◌, ◌≤ℤ◌, arith, refl, ap, ◌∙◌, bit_and, to_z, nat_le, nat_lt, if◌then◌else◌, inl, inr}
+use Rattle.std.proofs.Common.{◌≡◌, ℕ, suc, ◌+◌, ◌-◌, ◌/◌, ◌%◌, ◌<◌, ◌≤◌, Bool, true, false, ◌&&◌, ℤ, pos, negsuc, ◌+ℤ◌, ◌-ℤ◌, ◌≤ℤ◌, arith, refl, ap, ◌∙◌}
+use Rattle.std.proofs.Common.{bit_and, to_z, nat_le, nat_lt, if◌then◌else◌, inl, inr}
 use Rattle.std.proofs.lemmas.Bool.{cases_Bool, leb-true, leb-false, le-ltb}
 use Rattle.std.proofs.lemmas.Grind.{numeral_and}
 use Rattle.std.proofs.lemmas.Int.{ints}
@@ -42,16 +43,19 @@ both_negative m n lm ln =
     let z : (65536 - suc (bit_and (65536 - suc m) (65536 - suc n))) / 256 ≡ 0 = omega arith in
     ap (λ v. int_shr v 8) (high_to_z (bit_and (65536 - suc m) (65536 - suc n)) (omega arith)) ∙ ap negsuc z
 
-sign_shifted : (x y : ℤ) → negsuc 255 ≤ℤ x → x ≤ℤ pos 255 → negsuc 255 ≤ℤ y → y ≤ℤ pos 255 → (p q : Bool) → (p ≡ true → x ≤ℤ negsuc 0) → (p ≡ false → pos 0 ≤ℤ x) → (q ≡ true → y ≤ℤ negsuc 0) → (q ≡ false → pos 0 ≤ℤ y)
+sign_shifted : (x y : ℤ) → negsuc 255 ≤ℤ x → x ≤ℤ pos 255 → negsuc 255 ≤ℤ y → y ≤ℤ pos 255 → (p q : Bool) → (p ≡ true → x ≤ℤ negsuc 0)
+    → (p ≡ false → pos 0 ≤ℤ x) → (q ≡ true → y ≤ℤ negsuc 0) → (q ≡ false → pos 0 ≤ℤ y)
     → int_shr (int_bit_and w16 x y) 8 ≡ (if p && q then negsuc 0 else pos 0)
 sign_shifted (pos m) y a b c d true q pt pf qt qf = absurd (let h = pt refl in omega (arith, ints))
 sign_shifted (negsuc m) y a b c d false q pt pf qt qf = absurd (let h = pf refl in omega (arith, ints))
 sign_shifted (negsuc m) (pos n) a b c d true true pt pf qt qf = absurd (let h = qt refl in omega (arith, ints))
 sign_shifted (negsuc m) (negsuc n) a b c d true true pt pf qt qf = both_negative m n (omega (arith, ints)) (omega (arith, ints))
-sign_shifted (negsuc m) (pos n) a b c d true false pt pf qt qf = (let le = and_le_r (65536 - suc m) n in not_negative (bit_and (65536 - suc m) n) (omega (arith, ints)))
+sign_shifted (negsuc m) (pos n) a b c d true false pt pf qt qf =
+    (let le = and_le_r (65536 - suc m) n in not_negative (bit_and (65536 - suc m) n) (omega (arith, ints)))
 sign_shifted (negsuc m) (negsuc n) a b c d true false pt pf qt qf = absurd (let h = qf refl in omega (arith, ints))
 sign_shifted (pos m) (pos n) a b c d false q pt pf qt qf = (let le = and_le_l m n in not_negative (bit_and m n) (omega (arith, ints)))
-sign_shifted (pos m) (negsuc n) a b c d false q pt pf qt qf = (let le = and_le_l m (65536 - suc n) in not_negative (bit_and m (65536 - suc n)) (omega (arith, ints)))
+sign_shifted (pos m) (negsuc n) a b c d false q pt pf qt qf =
+    (let le = and_le_l m (65536 - suc n) in not_negative (bit_and m (65536 - suc n)) (omega (arith, ints)))
 
 between_is : (a z c : ℕ) → a < 256 → z < 256 → c < 256 → between a z c ≡ (if nat_le a c && nat_le c z then negsuc 0 else pos 0)
 between_is a z c la lz lc =
@@ -77,7 +81,8 @@ low_all (negsuc n) lo hi =
     let b : bit_and 65535 (65536 - suc n) ≡ 65536 - suc n = numeral_and 65534 (65536 - suc n) refl ∙ omega arith in
     ap (λ k. low_byte (to_z w16 k)) b ∙ low_to_z (65536 - suc n) (omega arith) ∙ omega arith
 
-pub masked : (p : Bool) (v : ℤ) → negsuc 32767 ≤ℤ v → v ≤ℤ pos 65535 → low_byte (int_bit_and w16 (if p then negsuc 0 else pos 0) v) ≡ (if p then low_byte v else 0)
+pub masked : (p : Bool) (v : ℤ) → negsuc 32767 ≤ℤ v → v ≤ℤ pos 65535
+    → low_byte (int_bit_and w16 (if p then negsuc 0 else pos 0) v) ≡ (if p then low_byte v else 0)
 masked true v lo hi = low_all v lo hi
 masked false v lo hi = refl
 

@@ -17,18 +17,21 @@ first_lanes xs e = pick_l_left 0 xs xs 32 (range_with_len 0 24) e tt ∙ pick_l-
 
 -- the digits of groups, as lanes compute them
 abbrev pub high_digits : List ℕ → List ℕ
-high_digits (a ∷ b ∷ c ∷ rest) = bit_and ((a * 64 % 256 + a / 4) % 256) 63 ∷ bit_and ((a * 16 % 256 + b / 16) % 256) 63 ∷ bit_and ((b * 4 % 256 + c / 64) % 256) 63 ∷ bit_and ((c * 64 % 256 + c / 1) % 256) 63 ∷ high_digits rest
+high_digits (a ∷ b ∷ c ∷ rest) = bit_and ((a * 64 % 256 + a / 4) % 256) 63 ∷ bit_and ((a * 16 % 256 + b / 16) % 256) 63
+    ∷ bit_and ((b * 4 % 256 + c / 64) % 256) 63 ∷ bit_and ((c * 64 % 256 + c / 1) % 256) 63 ∷ high_digits rest
 high_digits _ = []
 
 abbrev pub low_digits : List ℕ → List ℕ
-low_digits (a ∷ b ∷ c ∷ rest) = bit_and ((a * 64 % 256 + a / 1) % 256) 63 ∷ bit_and ((b * 4 % 256 + a / 64) % 256) 63 ∷ bit_and ((c * 16 % 256 + b / 16) % 256) 63 ∷ bit_and ((c * 64 % 256 + c / 4) % 256) 63 ∷ low_digits rest
+low_digits (a ∷ b ∷ c ∷ rest) = bit_and ((a * 64 % 256 + a / 1) % 256) 63 ∷ bit_and ((b * 4 % 256 + a / 64) % 256) 63
+    ∷ bit_and ((c * 16 % 256 + b / 16) % 256) 63 ∷ bit_and ((c * 64 % 256 + c / 4) % 256) 63 ∷ low_digits rest
 low_digits _ = []
 
 low_six : (x : ℕ) → bit_and x 63 ≡ x % 64
 low_six x = and_comm x 63 ∙ numeral_and 62 x refl
 
 high_group : (a b c : ℕ) → a < 256 → b < 256 → c < 256
-    → (bit_and ((a * 64 % 256 + a / 4) % 256) 63 ∷ bit_and ((a * 16 % 256 + b / 16) % 256) 63 ∷ bit_and ((b * 4 % 256 + c / 64) % 256) 63 ∷ bit_and ((c * 64 % 256 + c / 1) % 256) 63 ∷ [])
+    → (bit_and ((a * 64 % 256 + a / 4) % 256) 63 ∷ bit_and ((a * 16 % 256 + b / 16) % 256) 63 ∷ bit_and ((b * 4 % 256 + c / 64) % 256) 63
+    ∷ bit_and ((c * 64 % 256 + c / 1) % 256) 63 ∷ [])
     ≡ digits_of_number High (number High a b c)
 high_group a b c la lb lc =
     let p : bit_and ((a * 64 % 256 + a / 4) % 256) 63 ≡ (a * 65536 + b * 256 + c) / 262144 = low_six ((a * 64 % 256 + a / 4) % 256) ∙ omega arith in
@@ -38,7 +41,8 @@ high_group a b c la lb lc =
     (λ i. p i ∷ q i ∷ r i ∷ s i ∷ [])
 
 low_group : (a b c : ℕ) → a < 256 → b < 256 → c < 256
-    → (bit_and ((a * 64 % 256 + a / 1) % 256) 63 ∷ bit_and ((b * 4 % 256 + a / 64) % 256) 63 ∷ bit_and ((c * 16 % 256 + b / 16) % 256) 63 ∷ bit_and ((c * 64 % 256 + c / 4) % 256) 63 ∷ [])
+    → (bit_and ((a * 64 % 256 + a / 1) % 256) 63 ∷ bit_and ((b * 4 % 256 + a / 64) % 256) 63 ∷ bit_and ((c * 16 % 256 + b / 16) % 256) 63
+    ∷ bit_and ((c * 64 % 256 + c / 4) % 256) 63 ∷ [])
     ≡ digits_of_number Low (number Low a b c)
 low_group a b c la lb lc =
     let p : bit_and ((a * 64 % 256 + a / 1) % 256) 63 ≡ (c * 65536 + b * 256 + a) % 64 = low_six ((a * 64 % 256 + a / 1) % 256) ∙ omega arith in
@@ -89,18 +93,21 @@ digits_below High (a ∷ b ∷ c ∷ rest) low =
     let la = low 0 in
     let lb = low 1 in
     let lc = low 2 in
-    all_four (n / 262144) (n / 4096 % 64) (n / 64 % 64) (n % 64) (digits_of_bytes High rest) (omega arith) (omega arith) (omega arith) (omega arith) (digits_below High rest (λ k. low (suc (suc (suc k)))))
+    all_four (n / 262144) (n / 4096 % 64) (n / 64 % 64) (n % 64) (digits_of_bytes High rest) (omega arith) (omega arith) (omega arith) (omega arith)
+    (digits_below High rest (λ k. low (suc (suc (suc k)))))
 digits_below Low (a ∷ b ∷ c ∷ rest) low =
     let n : ℕ = c * 65536 + b * 256 + a in
     let la = low 0 in
     let lb = low 1 in
     let lc = low 2 in
-    all_four (n % 64) (n / 64 % 64) (n / 4096 % 64) (n / 262144) (digits_of_bytes Low rest) (omega arith) (omega arith) (omega arith) (omega arith) (digits_below Low rest (λ k. low (suc (suc (suc k)))))
+    all_four (n % 64) (n / 64 % 64) (n / 4096 % 64) (n / 262144) (digits_of_bytes Low rest) (omega arith) (omega arith) (omega arith) (omega arith)
+    (digits_below Low rest (λ k. low (suc (suc (suc k)))))
 digits_below end [] low = refl
 digits_below end (a ∷ []) low = refl
 digits_below end (a ∷ b ∷ []) low = refl
 
-pub digits_are_characters : (end : End) (table : List ℕ) (m : ℕ) (xs : List ℕ) → length xs ≡ 3 * m → map (slice_index table) (digits_of_bytes end xs) ≡ characters end table xs
+pub digits_are_characters : (end : End) (table : List ℕ) (m : ℕ) (xs : List ℕ) → length xs ≡ 3 * m
+    → map (slice_index table) (digits_of_bytes end xs) ≡ characters end table xs
 unfolding digits_of_bytes characters
 digits_are_characters end table zero [] e = refl
 digits_are_characters end table zero (a ∷ xs) e = absurd (omega arith)

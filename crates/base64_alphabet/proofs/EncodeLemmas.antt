@@ -1,5 +1,6 @@
 -- Whole bytes_of_blocks, one after another.
-use Rattle.std.proofs.Common.{◌≡◌, ℕ, ◌+◌, ◌-◌, ◌*◌, ◌/◌, ◌%◌, ◌≤◌, List, [], ◌∷◌, ◌++◌, length, slice_index, take, drop, arith, refl, ap, sym, ◌∙◌, append_assoc, append-nil}
+use Rattle.std.proofs.Common.{◌≡◌, ℕ, ◌+◌, ◌-◌, ◌*◌, ◌/◌, ◌%◌, ◌≤◌, List, [], ◌∷◌, ◌++◌, length, slice_index, take, drop, arith, refl, ap, sym, ◌∙◌}
+use Rattle.std.proofs.Common.{append_assoc, append-nil}
 use Rattle.std.proofs.lemmas.Grind.{common_steps}
 use Rattle.std.proofs.lemmas.List.{take-append-drop, drop-drop, drop_all}
 use Rattle.std.proofs.lemmas.Slice.{take-put_mid, drop-put_mid}
@@ -7,7 +8,8 @@ use borrow.Rule.Slice.PartMut.{put_mid}
 use Rattle.base64_alphabet.specs.Group.{End, characters_of}
 use Rattle.base64_alphabet.specs.Encoding.{characters}
 
-characters_three : (end : End) (table xs ys : List ℕ) → length xs ≡ 3 → characters end table (xs ++ ys) ≡ characters_of end table (slice_index xs 0) (slice_index xs 1) (slice_index xs 2) ++ characters end table ys
+characters_three : (end : End) (table xs ys : List ℕ) → length xs ≡ 3
+    → characters end table (xs ++ ys) ≡ characters_of end table (slice_index xs 0) (slice_index xs 1) (slice_index xs 2) ++ characters end table ys
 unfolding characters
 characters_three end table (a ∷ b ∷ c ∷ []) ys h = refl
 characters_three end table [] ys h = absurd (omega arith)
@@ -32,7 +34,8 @@ encoded_step end table src part dst new k is room space four was t h =
     let three : length (take 3 (drop (3 * k) src)) ≡ 3 = grind (arith, common_steps) in
     let g : List ℕ = characters_of end table (slice_index part 0) (slice_index part 1) (slice_index part 2) in
     let is_new : new ≡ g = was ∙ append-nil g in
-    let front : take (4 * (k + 1)) (put_mid (4 * k) (4 * k + 4 - 4 * k) dst new) ≡ take (4 * k) dst ++ new = take-put_mid (4 * k) (4 * k + 4 - 4 * k) dst new (4 * (k + 1)) (omega arith) (omega arith) in
+    let front : take (4 * (k + 1)) (put_mid (4 * k) (4 * k + 4 - 4 * k) dst new) ≡ take (4 * k) dst ++ new =
+    take-put_mid (4 * k) (4 * k + 4 - 4 * k) dst new (4 * (k + 1)) (omega arith) (omega arith) in
     let cut : characters end table (drop (3 * k) src) ≡ g ++ characters end table (drop (3 * (k + 1)) src)
     = rw is (ap (characters end table) (group_split src k) ∙ characters_three end table (take 3 (drop (3 * k) src)) (drop (3 * (k + 1)) src) three) in
     let e : take (4 * k) dst ++ (g ++ characters end table (drop (3 * (k + 1)) src)) ≡ t = rw cut at h in
@@ -42,7 +45,8 @@ pub rest_step : (dst new first : List ℕ) (k : ℕ) → 4 * k + 4 ≤ length ds
     → drop (4 * (k + 1)) (put_mid (4 * k) (4 * k + 4 - 4 * k) dst new) ≡ drop (4 * (k + 1)) first
 rest_step dst new first k space four h =
     let e : 4 * k + 4 ≡ 4 * (k + 1) = omega arith in
-    let front : drop (4 * (k + 1)) (put_mid (4 * k) (4 * k + 4 - 4 * k) dst new) ≡ drop (4 * (k + 1)) dst = drop-put_mid (4 * k) (4 * k + 4 - 4 * k) dst new (4 * (k + 1)) (omega arith) (omega arith) (omega arith) in
+    let front : drop (4 * (k + 1)) (put_mid (4 * k) (4 * k + 4 - 4 * k) dst new) ≡ drop (4 * (k + 1)) dst =
+    drop-put_mid (4 * k) (4 * k + 4 - 4 * k) dst new (4 * (k + 1)) (omega arith) (omega arith) (omega arith) in
     front ∙ sym (ap (λ n. drop n dst) e) ∙ sym (drop-drop 4 (4 * k) dst) ∙ ap (drop 4) h ∙ drop-drop 4 (4 * k) first ∙ ap (λ n. drop n first) e
 
 pub encoded_end : (end : End) (table src dst first : List ℕ) (k q : ℕ) → length src % 3 ≡ 0 → q ≡ length src / 3 → q ≤ k → k ≤ q
@@ -51,5 +55,6 @@ pub encoded_end : (end : End) (table src dst first : List ℕ) (k q : ℕ) → l
 encoded_end end table src dst first k q whole is above below h rest =
     let e : k ≡ q = omega arith in
     let none : drop (3 * k) src ≡ [] = drop_all (3 * k) src (omega arith) in
-    let bytes : characters end table src ≡ take (4 * k) dst = sym h ∙ ap (λ xs. take (4 * k) dst ++ characters end table xs) none ∙ ap (λ xs. take (4 * k) dst ++ xs) (characters_none end table) ∙ append-nil (take (4 * k) dst) in
+    let bytes : characters end table src ≡ take (4 * k) dst = sym h ∙ ap (λ xs. take (4 * k) dst ++ characters end table xs) none
+    ∙ ap (λ xs. take (4 * k) dst ++ xs) (characters_none end table) ∙ append-nil (take (4 * k) dst) in
     rw (← e, bytes, ← rest) (sym (take-append-drop (4 * k) dst))

@@ -1,5 +1,6 @@
 -- Lists of bytes by parts of 24.
-use Rattle.std.proofs.Common.{◌≡◌, ℕ, zero, suc, ◌+◌, ◌-◌, ◌*◌, ◌/◌, ◌%◌, ◌≤◌, List, [], ◌∷◌, ◌++◌, length, take, drop, arith, refl, ap, sym, ◌∙◌, append_assoc, append-nil, length-drop}
+use Rattle.std.proofs.Common.{◌≡◌, ℕ, zero, suc, ◌+◌, ◌-◌, ◌*◌, ◌/◌, ◌%◌, ◌≤◌, List, [], ◌∷◌, ◌++◌, length, take, drop, arith, refl, ap, sym, ◌∙◌}
+use Rattle.std.proofs.Common.{append_assoc, append-nil, length-drop}
 use Rattle.std.proofs.lemmas.List.{take-append-drop, drop-drop, drop_all, length-take-le, take_at, drop_at}
 use Rattle.std.proofs.lemmas.Slice.{take-put_mid, drop-put_mid}
 use borrow.Rule.Slice.PartMut.{put_mid}
@@ -42,13 +43,16 @@ part_characters end table src part k is room =
     let long : length (take 24 (drop (24 * k) src)) ≡ 24 = length-take-le 24 (drop (24 * k) src) (omega arith) in
     rw is (ap (characters end table) (part_split src k) ∙ characters-append end table 8 (take 24 (drop (24 * k) src)) (drop (24 * (k + 1)) src) long)
 
-pub written_step : (end : End) (table src part dst new : List ℕ) (k : ℕ) → part ≡ take 24 (drop (24 * k) src) → 24 * k + 24 ≤ length src → 32 * k + 32 ≤ length dst
+pub written_step : (end : End) (table src part dst new : List ℕ) (k : ℕ) → part ≡ take 24 (drop (24 * k) src) → 24 * k + 24 ≤ length src
+    → 32 * k + 32 ≤ length dst
     → length new ≡ 32 → new ≡ characters end table part
     → (t : List ℕ) → take (32 * k) dst ++ characters end table (drop (24 * k) src) ≡ t
     → take (32 * (k + 1)) (put_mid (32 * k) (32 * k + 32 - 32 * k) dst new) ++ characters end table (drop (24 * (k + 1)) src) ≡ t
 written_step end table src part dst new k is room space long was t h =
-    let front : take (32 * (k + 1)) (put_mid (32 * k) (32 * k + 32 - 32 * k) dst new) ≡ take (32 * k) dst ++ new = take-put_mid (32 * k) (32 * k + 32 - 32 * k) dst new (32 * (k + 1)) (omega arith) (omega arith) in
-    let e : take (32 * k) dst ++ (characters end table part ++ characters end table (drop (24 * (k + 1)) src)) ≡ t = rw (part_characters end table src part k is room) at h in
+    let front : take (32 * (k + 1)) (put_mid (32 * k) (32 * k + 32 - 32 * k) dst new) ≡ take (32 * k) dst ++ new =
+    take-put_mid (32 * k) (32 * k + 32 - 32 * k) dst new (32 * (k + 1)) (omega arith) (omega arith) in
+    let e : take (32 * k) dst ++ (characters end table part ++ characters end table (drop (24 * (k + 1)) src)) ≡ t =
+    rw (part_characters end table src part k is room) at h in
     rw (front, was, append_assoc) e
 
 pub rest_step : (dst new first : List ℕ) (k : ℕ) → 32 * k + 32 ≤ length dst → length new ≡ 32
@@ -56,7 +60,8 @@ pub rest_step : (dst new first : List ℕ) (k : ℕ) → 32 * k + 32 ≤ length 
     → drop (32 * (k + 1)) (put_mid (32 * k) (32 * k + 32 - 32 * k) dst new) ≡ drop (32 * (k + 1)) first
 rest_step dst new first k space long h =
     let e : 32 * k + 32 ≡ 32 * (k + 1) = omega arith in
-    let front : drop (32 * (k + 1)) (put_mid (32 * k) (32 * k + 32 - 32 * k) dst new) ≡ drop (32 * (k + 1)) dst = drop-put_mid (32 * k) (32 * k + 32 - 32 * k) dst new (32 * (k + 1)) (omega arith) (omega arith) (omega arith) in
+    let front : drop (32 * (k + 1)) (put_mid (32 * k) (32 * k + 32 - 32 * k) dst new) ≡ drop (32 * (k + 1)) dst =
+    drop-put_mid (32 * k) (32 * k + 32 - 32 * k) dst new (32 * (k + 1)) (omega arith) (omega arith) (omega arith) in
     front ∙ sym (ap (λ n. drop n dst) e) ∙ sym (drop-drop 32 (32 * k) dst) ∙ ap (drop 32) h ∙ drop-drop 32 (32 * k) first ∙ ap (λ n. drop n first) e
 
 pub written_end : (end : End) (table src dst first : List ℕ) (k q : ℕ) → length src % 24 ≡ 0 → q ≡ length src / 24 → q ≤ k → k ≤ q
@@ -65,7 +70,8 @@ pub written_end : (end : End) (table src dst first : List ℕ) (k q : ℕ) → l
 written_end end table src dst first k q whole is above below h rest =
     let e : k ≡ q = omega arith in
     let none : drop (24 * k) src ≡ [] = drop_all (24 * k) src (omega arith) in
-    let text : characters end table src ≡ take (32 * k) dst = sym h ∙ ap (λ xs. take (32 * k) dst ++ characters end table xs) none ∙ ap (λ xs. take (32 * k) dst ++ xs) (characters_none end table) ∙ append-nil (take (32 * k) dst) in
+    let text : characters end table src ≡ take (32 * k) dst = sym h ∙ ap (λ xs. take (32 * k) dst ++ characters end table xs) none
+    ∙ ap (λ xs. take (32 * k) dst ++ xs) (characters_none end table) ∙ append-nil (take (32 * k) dst) in
     rw (← e, text, ← rest) (sym (take-append-drop (32 * k) dst))
 
 -- the parts, and then the rest
@@ -76,9 +82,12 @@ pub run_written : (end : End) (table src first second last new : List ℕ) (p r 
 run_written end table src first second last new p r q is room space front put more =
     let len : length (take (24 * p) src) ≡ 3 * (8 * p) = length-take-le (24 * p) src room ∙ omega arith in
     let long : length (characters end table (take (24 * p) src)) ≡ 32 * p = length-characters end table (8 * p) (take (24 * p) src) len ∙ omega arith in
-    let head : take (32 * p) second ≡ characters end table (take (24 * p) src) = ap (take (32 * p)) front ∙ take_at (characters end table (take (24 * p) src)) (drop (32 * p) first) (32 * p) long in
-    let kept : drop (32 * p) second ≡ drop (32 * p) first = ap (drop (32 * p)) front ∙ drop_at (characters end table (take (24 * p) src)) (drop (32 * p) first) (32 * p) long in
+    let head : take (32 * p) second ≡ characters end table (take (24 * p) src) = ap (take (32 * p)) front
+    ∙ take_at (characters end table (take (24 * p) src)) (drop (32 * p) first) (32 * p) long in
+    let kept : drop (32 * p) second ≡ drop (32 * p) first = ap (drop (32 * p)) front
+    ∙ drop_at (characters end table (take (24 * p) src)) (drop (32 * p) first) (32 * p) long in
     let tail : drop r (drop (32 * p) second) ≡ drop q first = ap (drop r) kept ∙ drop-drop r (32 * p) first ∙ ap (λ n. drop n first) (sym is) in
     put ∙ (λ i. head i ++ (more ∙ ap (λ xs. characters end table (drop (24 * p) src) ++ xs) tail) i)
     ∙ sym (append_assoc (characters end table (take (24 * p) src)) (characters end table (drop (24 * p) src)) (drop q first))
-    ∙ ap (λ xs. xs ++ drop q first) (sym (characters-append end table (8 * p) (take (24 * p) src) (drop (24 * p) src) len) ∙ ap (characters end table) (take-append-drop (24 * p) src))
+    ∙ ap (λ xs. xs ++ drop q first) (sym (characters-append end table (8 * p) (take (24 * p) src) (drop (24 * p) src) len)
+    ∙ ap (characters end table) (take-append-drop (24 * p) src))

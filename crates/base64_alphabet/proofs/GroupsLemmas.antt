@@ -1,5 +1,6 @@
 -- Bits of places, each by a test of all 65.
-use Rattle.std.proofs.Common.{◌≡◌, ℕ, ◌+◌, ◌<◌, ◌==◌, Bool, true, ◌&&◌, ◌||◌, ℤ, pos, negsuc, ◌≤ℤ◌, arith, refl, ◌-ℤ◌, nat_abs, int_lt, bit_and, to_z, of_z, int_le, not, if◌then◌else◌, false}
+use Rattle.std.proofs.Common.{◌≡◌, ℕ, ◌+◌, ◌<◌, ◌==◌, Bool, true, ◌&&◌, ◌||◌, ℤ, pos, negsuc, ◌≤ℤ◌, arith, refl, ◌-ℤ◌, nat_abs, int_lt, bit_and, to_z, of_z}
+use Rattle.std.proofs.Common.{int_le, not, if◌then◌else◌, false}
 use Rattle.std.proofs.lemmas.Bool.{and_parts, eqb-true}
 use Rattle.std.proofs.lemmas.Int.{ints}
 use Rattle.std.specs.Int.{int_bit_and, int_bit_or, int_shr}

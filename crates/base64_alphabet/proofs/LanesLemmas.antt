@@ -1,5 +1,7 @@
 -- Vectors of bytes, lane by lane.
-use Rattle.std.proofs.Common.{◌≡◌, ℕ, zero, suc, ◌+◌, ◌*◌, ◌%◌, ◌^◌, ◌<◌, ◌≤◌, Bool, true, false, cond, leb, ltb, nat_le, nat_eq, ◌&&◌, List, [], ◌∷◌, length, map, replicate, arith, refl, ap, sym, ◌∙◌, bit_and, if◌then◌else◌, slice_index, take, get_or, ℤ, pos, negsuc, ◌+ℤ◌, ◌≤ℤ◌, to_z, inl, inr}
+use Rattle.std.proofs.Common.{◌≡◌, ℕ, zero, suc, ◌+◌, ◌*◌, ◌%◌, ◌^◌, ◌<◌, ◌≤◌, Bool, true, false, cond, leb, ltb, nat_le, nat_eq, ◌&&◌, List, [], ◌∷◌, length}
+use Rattle.std.proofs.Common.{map, replicate, arith, refl, ap, sym, ◌∙◌, bit_and, if◌then◌else◌, slice_index, take, get_or, ℤ, pos, negsuc, ◌+ℤ◌, ◌≤ℤ◌, to_z}
+use Rattle.std.proofs.Common.{inl, inr}
 use Rattle.std.proofs.lemmas.Bool.{cases_Bool, ltb-true, ltb-false, lt-ltb, le-ltb, ne_eqb}
 use Rattle.std.proofs.lemmas.Int.{ints}
 use Rattle.std.proofs.lemmas.List.{take_all, length-map}
@@ -34,7 +36,8 @@ low_of_sum c k lt =
     let e : c % 256 ≡ c = omega arith in
     sym (ap (λ x. (x + low_byte k) % 256) e) ∙ low_add (pos c) k
 
-pub range_lanes : (n a z : ℕ) (k : ℤ) (cs : List ℕ) → a < 256 → z < 256 → negsuc 32767 ≤ℤ k → k ≤ℤ pos 32767 → length cs ≡ n → ((i : ℕ) → slice_index cs i < 256)
+pub range_lanes : (n a z : ℕ) (k : ℤ) (cs : List ℕ) → a < 256 → z < 256 → negsuc 32767 ≤ℤ k → k ≤ℤ pos 32767 → length cs ≡ n
+    → ((i : ℕ) → slice_index cs i < 256)
     → sel_l (map (top 7) (zip2 bit_and (zip2 (λ x y. mask_of (leb x y)) (replicate n a) cs) (zip2 (λ x y. mask_of (leb x y)) cs (replicate n z))))
     (zip2 (λ x y. (x + y) % 256) cs (replicate n (low_byte k))) (replicate n 0)
     ≡ map (λ x. low_byte (added_by (Range a z k) x)) cs
@@ -44,7 +47,8 @@ range_lanes (suc n) a z k [] la lz lo hi e low = absurd (omega arith)
 range_lanes (suc n) a z k (x ∷ cs) la lz lo hi e low =
     let lt : x < 256 = low 0 in
     let one : (if nat_le a x && nat_le x z then (x + low_byte k) % 256 else 0) ≡ low_byte (int_bit_and w16 (between a z x) (pos x +ℤ k))
-    = ap (λ y. if nat_le a x && nat_le x z then y else 0) (low_of_sum x k lt) ∙ sym (added_between a z x (pos x +ℤ k) la lz lt (omega (arith, ints)) (omega (arith, ints))) in
+    = ap (λ y. if nat_le a x && nat_le x z then y else 0) (low_of_sum x k lt)
+    ∙ sym (added_between a z x (pos x +ℤ k) la lz lt (omega (arith, ints)) (omega (arith, ints))) in
     (λ i. (chosen (leb a x) (leb x z) ((x + low_byte k) % 256) 0 ∙ one) i ∷ range_lanes n a z k cs la lz lo hi (omega arith) (λ j. low (suc j)) i)
 
 pub value_lanes : (n v : ℕ) (k : ℤ) (cs : List ℕ) → v < 256 → negsuc 32767 ≤ℤ k → k ≤ℤ pos 32767 → length cs ≡ n → ((i : ℕ) → slice_index cs i < 256)
@@ -56,7 +60,8 @@ value_lanes zero v k (x ∷ cs) lv lo hi e low = absurd (omega arith)
 value_lanes (suc n) v k [] lv lo hi e low = absurd (omega arith)
 value_lanes (suc n) v k (x ∷ cs) lv lo hi e low =
     let lt : x < 256 = low 0 in
-    let one : (if nat_le v x && nat_le x v then low_byte k else 0) ≡ low_byte (int_bit_and w16 (between v v x) k) = sym (added_between v v x k lv lv lt lo (omega (arith, ints))) in
+    let one : (if nat_le v x && nat_le x v then low_byte k else 0) ≡ low_byte (int_bit_and w16 (between v v x) k) =
+    sym (added_between v v x k lv lv lt lo (omega (arith, ints))) in
     (λ i. (chosen (leb v x) (leb x v) (low_byte k) 0 ∙ one) i ∷ value_lanes n v k cs lv lo hi (omega arith) (λ j. low (suc j)) i)
 
 -- ---- the loop over the passes
@@ -79,7 +84,8 @@ pub pass_step : (steps : List DecodeStep) (i : ℕ) (e : DecodeStep) (cs sum add
 pass_step steps i e cs sum added lt is more =
     let one : suc i ≡ i + 1 = omega arith in
     (λ j. zip2 (λ a b. (a + b) % 256) (is j) (more j))
-    ∙ next_lanes (sum_from (negsuc 0) (take i steps)) (added_by (get_or steps i e)) (sum_from (negsuc 0) (take (suc i) steps)) (λ x. sum_from-next (negsuc 0) steps i e x lt) cs
+    ∙ next_lanes (sum_from (negsuc 0) (take i steps)) (added_by (get_or steps i e)) (sum_from (negsuc 0) (take (suc i) steps))
+    (λ x. sum_from-next (negsuc 0) steps i e x lt) cs
     ∙ ap (λ k. map (λ x. low_byte (sum_from (negsuc 0) (take k steps) x)) cs) one
 
 places_end : (steps : List DecodeStep) (table cs : List ℕ) → decodes steps table ≡ true → ((k : ℕ) → slice_index cs k < 256)
@@ -87,7 +93,8 @@ places_end : (steps : List DecodeStep) (table cs : List ℕ) → decodes steps t
 places_end steps table [] h low = refl
 places_end steps table (x ∷ cs) h low = (λ i. low_byte (sum_at steps table x h (low 0) i) ∷ places_end steps table cs h (λ k. low (suc k)) i)
 
-pub pass_end : (items steps : List DecodeStep) (i : ℕ) (table cs sum : List ℕ) → items ≡ steps → length items ≤ i → decodes steps table ≡ true → ((k : ℕ) → slice_index cs k < 256)
+pub pass_end : (items steps : List DecodeStep) (i : ℕ) (table cs sum : List ℕ) → items ≡ steps → length items ≤ i → decodes steps table ≡ true
+    → ((k : ℕ) → slice_index cs k < 256)
     → sum ≡ map (λ x. low_byte (sum_from (negsuc 0) (take i items) x)) cs → sum ≡ map (λ x. low_byte (place_of table x)) cs
 pass_end items steps i table cs sum same past h low is =
     is ∙ ap (λ s. map (λ x. low_byte (sum_from (negsuc 0) s x)) cs) (take_all i items past ∙ same) ∙ places_end steps table cs h low
@@ -117,7 +124,13 @@ none_above (suc n) (x ∷ cs) e =
 pub all_places : (cs : List ℕ) → length cs ≡ 32
     → nat_eq (mask_l (map (top 7) (zip2 (λ x y. mask_of (ltb x y)) (replicate 32 63) cs)) % 2 ^ 64) 0 ≡ all_below 64 cs
 all_places cs e =
-    let len : length (map (top 7) (zip2 (λ x y. mask_of (ltb x y)) (replicate 32 63) cs)) ≤ 64 = omega (arith, length-map (zip2 (λ x y. mask_of (ltb x y)) (replicate 32 63) cs) (top 7), length-zip2 (λ (x : ℕ) (y : ℕ). mask_of (ltb x y)) (replicate 32 63) cs (sym e)) in
+    let len : length (map (top 7) (zip2 (λ x y. mask_of (ltb x y)) (replicate 32 63) cs)) ≤ 64 =
+    omega (
+      arith,
+      length-map (zip2 (λ x y. mask_of (ltb x y)) (replicate 32 63) cs) (top 7),
+      length-zip2 (λ (x : ℕ) (y : ℕ). mask_of (ltb x y))
+          (replicate 32 63) cs (sym e),
+    ) in
     ap (λ k. nat_eq k 0) (mask_l-mod (map (top 7) (zip2 (λ x y. mask_of (ltb x y)) (replicate 32 63) cs)) 64 len) ∙ none_above 32 cs e
 
 -- the places of all low bytes
@@ -141,4 +154,5 @@ widened_lanes zero (x ∷ cs) e fits = absurd (omega arith)
 widened_lanes (suc n) [] e fits = absurd (omega arith)
 widened_lanes (suc n) (x ∷ cs) e fits =
     let lt : x < 256 = fits.0.fits in
-    (λ i. same_ℤ_is (to_z w16 (cond (top 15 (is_above 63 (wide x))) 65535 (wide x))) (widened x) (holds_below_at wide_test 256 x wide_all lt) i ∷ widened_lanes n cs (omega arith) fits.1 i)
+    (λ i. same_ℤ_is (to_z w16 (cond (top 15 (is_above 63 (wide x))) 65535 (wide x))) (widened x) (holds_below_at wide_test 256 x wide_all lt) i
+    ∷ widened_lanes n cs (omega arith) fits.1 i)

@@ -1,5 +1,6 @@
 -- Lists of characters by parts of 32.
-use Rattle.std.proofs.Common.{◌≡◌, ℕ, zero, suc, ◌+◌, ◌-◌, ◌*◌, ◌/◌, ◌%◌, ◌≤◌, Bool, true, false, ◌&&◌, ltb, List, [], ◌∷◌, ◌++◌, ℤ, length, map, take, drop, arith, refl, ap, sym, ◌∙◌, append_assoc, append-nil, length-drop, to_z, of_z, inl, inr}
+use Rattle.std.proofs.Common.{◌≡◌, ℕ, zero, suc, ◌+◌, ◌-◌, ◌*◌, ◌/◌, ◌%◌, ◌≤◌, Bool, true, false, ◌&&◌, ltb, List, [], ◌∷◌, ◌++◌, ℤ, length, map, take, drop}
+use Rattle.std.proofs.Common.{arith, refl, ap, sym, ◌∙◌, append_assoc, append-nil, length-drop, to_z, of_z, inl, inr}
 use Rattle.std.proofs.lemmas.Bool.{and_parts, cases_Bool, lt-ltb, le-ltb}
 use Rattle.std.proofs.lemmas.List.{take-append-drop, drop-drop, drop_all, length-take-le, take_at, drop_at, take_all}
 use Rattle.std.proofs.lemmas.Slice.{take-put_mid, drop-put_mid}
@@ -52,7 +53,8 @@ pub digits_are_blocks : (end : End) (table text : List ℕ) → length table ≡
 unfolding bytes_of_digits bytes_of_blocks
 digits_are_blocks end table (a ∷ b ∷ c ∷ d ∷ rest) len h =
     let f = four table a b c d rest h in
-    (λ i. bytes_of_places end (low_place table a len f.first i) (low_place table b len f.second i) (low_place table c len f.third i) (low_place table d len f.fourth i) ++ digits_are_blocks end table rest len f.others i)
+    (λ i. bytes_of_places end (low_place table a len f.first i) (low_place table b len f.second i) (low_place table c len f.third i)
+    (low_place table d len f.fourth i) ++ digits_are_blocks end table rest len f.others i)
 digits_are_blocks end table [] len h = refl
 digits_are_blocks end table (a ∷ []) len h = refl
 digits_are_blocks end table (a ∷ b ∷ []) len h = refl
@@ -106,7 +108,8 @@ pub part_in : (table src part : List ℕ) (good : Bool) (k : ℕ) → part ≡ t
     → (good && all_in table (drop (32 * k) src)) ≡ true → all_in table part ≡ true
 part_in table src part good k is h =
     let rest = (and_parts good (all_in table (drop (32 * k) src)) h).1 in
-    rw is ((and_parts (all_in table (take 32 (drop (32 * k) src))) (all_in table (drop (32 * (k + 1)) src)) (rw (← all_in-append table (take 32 (drop (32 * k) src)) (drop (32 * (k + 1)) src), ← part_split src k) rest)).0)
+    rw is ((and_parts (all_in table (take 32 (drop (32 * k) src))) (all_in table (drop (32 * (k + 1)) src))
+    (rw (← all_in-append table (take 32 (drop (32 * k) src)) (drop (32 * (k + 1)) src), ← part_split src k) rest)).0)
 
 part_bytes : (end : End) (table src part : List ℕ) (k : ℕ) → part ≡ take 32 (drop (32 * k) src) → 32 * k + 32 ≤ length src
     → bytes_of_blocks end table (drop (32 * k) src) ≡ bytes_of_blocks end table part ++ bytes_of_blocks end table (drop (32 * (k + 1)) src)
@@ -115,13 +118,16 @@ part_bytes end table src part k is room =
     let long : length (take 32 (drop (32 * k) src)) ≡ 32 = length-take-le 32 (drop (32 * k) src) (omega arith) in
     rw is (ap (bytes_of_blocks end table) (part_split src k) ∙ bytes_of_blocks-append end table 8 (take 32 (drop (32 * k) src)) (drop (32 * (k + 1)) src) long)
 
-pub written_step : (end : End) (table src part dst new : List ℕ) (k : ℕ) → part ≡ take 32 (drop (32 * k) src) → 32 * k + 32 ≤ length src → 24 * k + 24 ≤ length dst
+pub written_step : (end : End) (table src part dst new : List ℕ) (k : ℕ) → part ≡ take 32 (drop (32 * k) src) → 32 * k + 32 ≤ length src
+    → 24 * k + 24 ≤ length dst
     → length new ≡ 24 → new ≡ bytes_of_blocks end table part
     → (t : List ℕ) → take (24 * k) dst ++ bytes_of_blocks end table (drop (32 * k) src) ≡ t
     → take (24 * (k + 1)) (put_mid (24 * k) (24 * k + 24 - 24 * k) dst new) ++ bytes_of_blocks end table (drop (32 * (k + 1)) src) ≡ t
 written_step end table src part dst new k is room space long was t h =
-    let front : take (24 * (k + 1)) (put_mid (24 * k) (24 * k + 24 - 24 * k) dst new) ≡ take (24 * k) dst ++ new = take-put_mid (24 * k) (24 * k + 24 - 24 * k) dst new (24 * (k + 1)) (omega arith) (omega arith) in
-    let e : take (24 * k) dst ++ (bytes_of_blocks end table part ++ bytes_of_blocks end table (drop (32 * (k + 1)) src)) ≡ t = rw (part_bytes end table src part k is room) at h in
+    let front : take (24 * (k + 1)) (put_mid (24 * k) (24 * k + 24 - 24 * k) dst new) ≡ take (24 * k) dst ++ new =
+    take-put_mid (24 * k) (24 * k + 24 - 24 * k) dst new (24 * (k + 1)) (omega arith) (omega arith) in
+    let e : take (24 * k) dst ++ (bytes_of_blocks end table part ++ bytes_of_blocks end table (drop (32 * (k + 1)) src)) ≡ t =
+    rw (part_bytes end table src part k is room) at h in
     rw (front, was, append_assoc) e
 
 pub rest_step : (dst new first : List ℕ) (k : ℕ) → 24 * k + 24 ≤ length dst → length new ≡ 24
@@ -129,7 +135,8 @@ pub rest_step : (dst new first : List ℕ) (k : ℕ) → 24 * k + 24 ≤ length 
     → drop (24 * (k + 1)) (put_mid (24 * k) (24 * k + 24 - 24 * k) dst new) ≡ drop (24 * (k + 1)) first
 rest_step dst new first k space long h =
     let e : 24 * k + 24 ≡ 24 * (k + 1) = omega arith in
-    let front : drop (24 * (k + 1)) (put_mid (24 * k) (24 * k + 24 - 24 * k) dst new) ≡ drop (24 * (k + 1)) dst = drop-put_mid (24 * k) (24 * k + 24 - 24 * k) dst new (24 * (k + 1)) (omega arith) (omega arith) (omega arith) in
+    let front : drop (24 * (k + 1)) (put_mid (24 * k) (24 * k + 24 - 24 * k) dst new) ≡ drop (24 * (k + 1)) dst =
+    drop-put_mid (24 * k) (24 * k + 24 - 24 * k) dst new (24 * (k + 1)) (omega arith) (omega arith) (omega arith) in
     front ∙ sym (ap (λ n. drop n dst) e) ∙ sym (drop-drop 24 (24 * k) dst) ∙ ap (drop 24) h ∙ drop-drop 24 (24 * k) first ∙ ap (λ n. drop n first) e
 
 -- ---- the parts, and then the rest
@@ -152,7 +159,8 @@ length-blocks end table (suc m) (a ∷ b ∷ c ∷ []) e = absurd (omega arith)
 pub run_rest : (first second last new : List ℕ) (p r q : ℕ) → q ≡ 24 * p + r → drop (24 * p) second ≡ drop (24 * p) first
     → drop (24 * p) last ≡ new → drop r new ≡ drop r (drop (24 * p) second) → drop q last ≡ drop q first
 run_rest first second last new p r q is kept put rest =
-    ap (λ n. drop n last) is ∙ sym (drop-drop r (24 * p) last) ∙ ap (drop r) put ∙ rest ∙ ap (drop r) kept ∙ drop-drop r (24 * p) first ∙ ap (λ n. drop n first) (sym is)
+    ap (λ n. drop n last) is ∙ sym (drop-drop r (24 * p) last) ∙ ap (drop r) put ∙ rest ∙ ap (drop r) kept ∙ drop-drop r (24 * p) first
+    ∙ ap (λ n. drop n first) (sym is)
 
 pub run_written : (end : End) (table src first second last new : List ℕ) (p r q : ℕ) → q ≡ 24 * p + r → 32 * p ≤ length src
     → second ≡ bytes_of_blocks end table (take (32 * p) src) ++ drop (24 * p) first → drop (24 * p) second ≡ drop (24 * p) first
@@ -161,11 +169,13 @@ pub run_written : (end : End) (table src first second last new : List ℕ) (p r 
 run_written end table src first second last new p r q is room front kept put more =
     let len : length (take (32 * p) src) ≡ 4 * (8 * p) = length-take-le (32 * p) src room ∙ omega arith in
     let long : length (bytes_of_blocks end table (take (32 * p) src)) ≡ 24 * p = length-blocks end table (8 * p) (take (32 * p) src) len ∙ omega arith in
-    let head : take (24 * p) second ≡ bytes_of_blocks end table (take (32 * p) src) = ap (take (24 * p)) front ∙ take_at (bytes_of_blocks end table (take (32 * p) src)) (drop (24 * p) first) (24 * p) long in
+    let head : take (24 * p) second ≡ bytes_of_blocks end table (take (32 * p) src) = ap (take (24 * p)) front
+    ∙ take_at (bytes_of_blocks end table (take (32 * p) src)) (drop (24 * p) first) (24 * p) long in
     let tail : drop r (drop (24 * p) second) ≡ drop q first = ap (drop r) kept ∙ drop-drop r (24 * p) first ∙ ap (λ n. drop n first) (sym is) in
     put ∙ (λ i. head i ++ (more ∙ ap (λ xs. bytes_of_blocks end table (drop (32 * p) src) ++ xs) tail) i)
     ∙ sym (append_assoc (bytes_of_blocks end table (take (32 * p) src)) (bytes_of_blocks end table (drop (32 * p) src)) (drop q first))
-    ∙ ap (λ xs. xs ++ drop q first) (sym (bytes_of_blocks-append end table (8 * p) (take (32 * p) src) (drop (32 * p) src) len) ∙ ap (bytes_of_blocks end table) (take-append-drop (32 * p) src))
+    ∙ ap (λ xs. xs ++ drop q first) (sym (bytes_of_blocks-append end table (8 * p) (take (32 * p) src) (drop (32 * p) src) len)
+    ∙ ap (bytes_of_blocks end table) (take-append-drop (32 * p) src))
 
 -- a write to the end of a slice
 pub put_end : (a : ℕ) (xs ys : List ℕ) → a ≤ length xs → put_mid a (length xs - a) xs ys ≡ take a xs ++ ys
@@ -185,7 +195,8 @@ pub written_end : (end : End) (table src dst first : List ℕ) (k q : ℕ) → l
 written_end end table src dst first k q whole is above below h rest =
     let e : k ≡ q = omega arith in
     let none : drop (32 * k) src ≡ [] = drop_all (32 * k) src (omega arith) in
-    let bytes : bytes_of_blocks end table src ≡ take (24 * k) dst = sym h ∙ ap (λ xs. take (24 * k) dst ++ bytes_of_blocks end table xs) none ∙ ap (λ xs. take (24 * k) dst ++ xs) (bytes_of_blocks-none end table) ∙ append-nil (take (24 * k) dst) in
+    let bytes : bytes_of_blocks end table src ≡ take (24 * k) dst = sym h ∙ ap (λ xs. take (24 * k) dst ++ bytes_of_blocks end table xs) none
+    ∙ ap (λ xs. take (24 * k) dst ++ xs) (bytes_of_blocks-none end table) ∙ append-nil (take (24 * k) dst) in
     rw (← e, bytes, ← rest) (sym (take-append-drop (24 * k) dst))
 
 kept : (z : ℤ) → IsPlace z → to_z w16 (of_z w16 z) ≡ z

@@ -1,11 +1,13 @@
 -- What the tests of specs/Passes.antt tell.
-use Rattle.std.proofs.Common.{◌≡◌, ℕ, zero, suc, ◌+◌, ◌<◌, Bool, true, ◌&&◌, List, ◌∷◌, ℤ, pos, negsuc, length, drop, get_or, arith, inl, inr, ◌+ℤ◌, FitsSigned, drop-cons, add-one, ◌≤ℤ◌, ◌≤◌, unsigned_abs, slice_index}
+use Rattle.std.proofs.Common.{◌≡◌, ℕ, zero, suc, ◌+◌, ◌<◌, Bool, true, ◌&&◌, List, ◌∷◌, ℤ, pos, negsuc, length, drop, get_or, arith, inl, inr, ◌+ℤ◌}
+use Rattle.std.proofs.Common.{FitsSigned, drop-cons, add-one, ◌≤ℤ◌, ◌≤◌, unsigned_abs, slice_index}
 use Rattle.std.proofs.lemmas.Bool.{and_parts, cases_lt}
 use Rattle.std.proofs.lemmas.Int.{ints}
 use Rattle.std.proofs.lemmas.List.{drop_all}
 use mir.Syntax.{w16}
 use Rattle.base64_alphabet.specs.Table.{holds_below, place_of}
-use Rattle.base64_alphabet.specs.Passes.{decodes, decodes_at, sums_fit, sum_from, same_ℤ, fits_16, value_fits, step_fits, added_by, encodes, encodes_at, turns_fit, turned_from, turned_by, turned_fits}
+use Rattle.base64_alphabet.specs.Passes.{decodes, decodes_at, sums_fit, sum_from, same_ℤ, fits_16, value_fits, step_fits, added_by, encodes, encodes_at}
+use Rattle.base64_alphabet.specs.Passes.{turns_fit, turned_from, turned_by, turned_fits}
 use Rattle.base64_alphabet.specs.declared.alphabet.EncodeStep.{EncodeStep}
 use Rattle.base64_alphabet.specs.declared.alphabet.DecodeStep.{DecodeStep}
 
@@ -29,11 +31,13 @@ fits_16_is z h = grind (arith, ints)
 
 -- no sum leaves i16, at a byte
 pub fits_at : (steps : List DecodeStep) (table : List ℕ) (c : ℕ) → decodes steps table ≡ true → c < 256 → sums_fit (negsuc 0) steps c ≡ true
-fits_at steps table c h lt = (and_parts (sums_fit (negsuc 0) steps c) (same_ℤ (sum_from (negsuc 0) steps c) (place_of table c)) (holds_below_at (decodes_at steps table) 256 c h lt)).0
+fits_at steps table c h lt = (and_parts (sums_fit (negsuc 0) steps c) (same_ℤ (sum_from (negsuc 0) steps c) (place_of table c))
+    (holds_below_at (decodes_at steps table) 256 c h lt)).0
 
 -- the sum is the place, at a byte
 pub sum_at : (steps : List DecodeStep) (table : List ℕ) (c : ℕ) → decodes steps table ≡ true → c < 256 → sum_from (negsuc 0) steps c ≡ place_of table c
-sum_at steps table c h lt = same_ℤ_is _ _ (and_parts (sums_fit (negsuc 0) steps c) (same_ℤ (sum_from (negsuc 0) steps c) (place_of table c)) (holds_below_at (decodes_at steps table) 256 c h lt)).1
+sum_at steps table c h lt = same_ℤ_is _ _ (and_parts (sums_fit (negsuc 0) steps c) (same_ℤ (sum_from (negsuc 0) steps c) (place_of table c))
+    (holds_below_at (decodes_at steps table) 256 c h lt)).1
 
 -- one step of the sum, where s is the first of the rest
 pub value_fits_first : (d : ℤ) (s : DecodeStep) (rest : List DecodeStep) (c : ℕ) → sums_fit d (s ∷ rest) c ≡ true → value_fits s c ≡ true
@@ -63,12 +67,18 @@ rest_sum d d' r steps i e c t lt is more h = rw (more, is) (rw (drop_step steps 
 
 -- ---- encoding
 
-pub turns_fit_at : (base : ℕ) (steps : List EncodeStep) (table : List ℕ) (s : ℤ) → encodes base steps table ≡ true → pos 0 ≤ℤ s → s ≤ℤ pos 63 → turns_fit (s +ℤ pos base) steps s ≡ true
-turns_fit_at base steps table (pos s) h low lt = (and_parts (turns_fit (pos s +ℤ pos base) steps (pos s)) (same_ℤ (turned_from (pos s +ℤ pos base) steps (pos s)) (pos (slice_index table s))) (holds_below_at (encodes_at base steps table) 64 s h (omega (arith, ints)))).0
+pub turns_fit_at : (base : ℕ) (steps : List EncodeStep) (table : List ℕ) (s : ℤ) → encodes base steps table ≡ true → pos 0 ≤ℤ s → s ≤ℤ pos 63
+    → turns_fit (s +ℤ pos base) steps s ≡ true
+turns_fit_at base steps table (pos s) h low lt = (and_parts (turns_fit (pos s +ℤ pos base) steps (pos s))
+    (same_ℤ (turned_from (pos s +ℤ pos base) steps (pos s)) (pos (slice_index table s)))
+    (holds_below_at (encodes_at base steps table) 64 s h (omega (arith, ints)))).0
 turns_fit_at base steps table (negsuc s) h low lt = absurd (omega (arith, ints))
 
-pub turned_at : (base : ℕ) (steps : List EncodeStep) (table : List ℕ) (s : ℤ) → encodes base steps table ≡ true → pos 0 ≤ℤ s → s ≤ℤ pos 63 → turned_from (s +ℤ pos base) steps s ≡ pos (slice_index table (unsigned_abs s))
-turned_at base steps table (pos s) h low lt = same_ℤ_is _ _ (and_parts (turns_fit (pos s +ℤ pos base) steps (pos s)) (same_ℤ (turned_from (pos s +ℤ pos base) steps (pos s)) (pos (slice_index table s))) (holds_below_at (encodes_at base steps table) 64 s h (omega (arith, ints)))).1
+pub turned_at : (base : ℕ) (steps : List EncodeStep) (table : List ℕ) (s : ℤ) → encodes base steps table ≡ true → pos 0 ≤ℤ s → s ≤ℤ pos 63
+    → turned_from (s +ℤ pos base) steps s ≡ pos (slice_index table (unsigned_abs s))
+turned_at base steps table (pos s) h low lt = same_ℤ_is _ _ (and_parts (turns_fit (pos s +ℤ pos base) steps (pos s))
+    (same_ℤ (turned_from (pos s +ℤ pos base) steps (pos s)) (pos (slice_index table s)))
+    (holds_below_at (encodes_at base steps table) 64 s h (omega (arith, ints)))).1
 turned_at base steps table (negsuc s) h low lt = absurd (omega (arith, ints))
 
 drop_turn : (steps : List EncodeStep) (i : ℕ) (e : EncodeStep) → i < length steps → drop i steps ≡ get_or steps i e ∷ drop (i + 1) steps

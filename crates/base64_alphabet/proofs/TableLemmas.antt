@@ -1,5 +1,6 @@
 -- What the test of a table tells.
-use Rattle.std.proofs.Common.{◌≡◌, ℕ, zero, suc, ◌<◌, ◌==◌, Bool, true, false, ◌&&◌, not, List, [], ◌∷◌, pos, length, slice_index, arith, refl, nat_lt, if◌then◌else◌, inl, inr, int_lt, ◌||◌}
+use Rattle.std.proofs.Common.{◌≡◌, ℕ, zero, suc, ◌<◌, ◌==◌, Bool, true, false, ◌&&◌, not, List, [], ◌∷◌, pos, length, slice_index, arith, refl, nat_lt}
+use Rattle.std.proofs.Common.{if◌then◌else◌, inl, inr, int_lt, ◌||◌}
 use Rattle.std.proofs.lemmas.Bool.{and_parts, eqb-true, ltb-true, cases_Bool, le-ltb}
 use Rattle.std.proofs.lemmas.Grind.{common_steps}
 use Rattle.std.proofs.lemmas.Int.{ints}
@@ -21,7 +22,8 @@ not_is false h = refl
 
 pub facts : (table : List ℕ) → is_table table ≡ true → Facts table
 facts table h =
-    let p6 = and_parts ((length table == 64) && is_distinct table && is_ascii table && is_in table 65 && not (is_in table 61) && not (is_in table 13)) (not (is_in table 10)) h in
+    let p6 = and_parts ((length table == 64) && is_distinct table && is_ascii table && is_in table 65 && not (is_in table 61) && not (is_in table 13))
+    (not (is_in table 10)) h in
     let p5 = and_parts ((length table == 64) && is_distinct table && is_ascii table && is_in table 65 && not (is_in table 61)) (not (is_in table 13)) p6.0 in
     let p4 = and_parts ((length table == 64) && is_distinct table && is_ascii table && is_in table 65) (not (is_in table 61)) p5.0 in
     let p3 = and_parts ((length table == 64) && is_distinct table && is_ascii table) (is_in table 65) p4.0 in
@@ -78,9 +80,11 @@ four_list (a ∷ b ∷ c ∷ []) h = absurd (omega arith)
 four_list (a ∷ b ∷ c ∷ d ∷ e ∷ xs) h = absurd (omega arith)
 
 pub four_answer : (table src : List ℕ) → length src ≡ 4
-    → answer_of (place_of table (slice_index src 0)) (place_of table (slice_index src 1)) (place_of table (slice_index src 2)) (place_of table (slice_index src 3))
+    → answer_of (place_of table (slice_index src 0)) (place_of table (slice_index src 1)) (place_of table (slice_index src 2))
+    (place_of table (slice_index src 3))
     ≡ (if all_in table src then pos 0 else pos 1)
-four_answer table (a ∷ b ∷ c ∷ d ∷ []) h = rw (place_sign table a, place_sign table b, place_sign table c, place_sign table d) (four_bools (is_in table a) (is_in table b) (is_in table c) (is_in table d))
+four_answer table (a ∷ b ∷ c ∷ d ∷ []) h = rw (place_sign table a, place_sign table b, place_sign table c, place_sign table d)
+    (four_bools (is_in table a) (is_in table b) (is_in table c) (is_in table d))
 four_answer table [] h = absurd (omega arith)
 four_answer table (a ∷ []) h = absurd (omega arith)
 four_answer table (a ∷ b ∷ []) h = absurd (omega arith)

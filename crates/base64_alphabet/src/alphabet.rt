@@ -1,7 +1,8 @@
 //! What an alphabet is.
 #![tactic(auto)]
 
-ghost use Rattle.std.specs.Prelude.{◌≡◌, ℕ, ◌<◌, ◌≤◌, ◌+◌, ◌++◌, List, Bool, IsTrue, ℤ, pos, ◌≤ℤ◌, length, true, false, slice_index, unsigned_abs, drop, map, if◌then◌else◌};
+ghost use Rattle.std.specs.Prelude.{◌≡◌, ℕ, ◌<◌, ◌≤◌, ◌+◌, ◌++◌, List, Bool, IsTrue, ℤ, pos, ◌≤ℤ◌, length, true, false, slice_index, unsigned_abs, drop, map};
+ghost use Rattle.std.specs.Prelude.{if◌then◌else◌};
 ghost use Rattle.base64_alphabet.specs.Table.{place_of, is_table, all_in, IsPlace};
 ghost use Rattle.base64_alphabet.specs.Passes.{decodes, value_fits, added_by, common_sign, encodes, turned_by, turned_fits};
 ghost use Rattle.base64_alphabet.specs.Group.{End, number, bytes_of_places, digits_of_number, bytes_of, answer_of, sextet, characters_of};

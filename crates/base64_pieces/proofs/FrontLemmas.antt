@@ -1,5 +1,6 @@
 -- The text of a front is no longer than the whole text.
-use Rattle.std.proofs.Common.{◌≡◌, ℕ, suc, ◌+◌, ◌*◌, ◌/◌, ◌%◌, ◌<◌, ◌≤◌, Bool, List, [], ◌++◌, length, take, drop, arith, refl, ap, sym, ◌∙◌, Option, Some, None, append_assoc, inl, inr, length-append}
+use Rattle.std.proofs.Common.{◌≡◌, ℕ, suc, ◌+◌, ◌*◌, ◌/◌, ◌%◌, ◌<◌, ◌≤◌, Bool, List, [], ◌++◌, length, take, drop, arith, refl, ap, sym, ◌∙◌, Option, Some}
+use Rattle.std.proofs.Common.{None, append_assoc, inl, inr, length-append}
 use Rattle.std.proofs.Math.ListN.{get_or}
 use Rattle.std.proofs.Math.Seq.{drop-cons}
 use Rattle.std.proofs.lemmas.Bool.{cases_lt}
@@ -38,7 +39,8 @@ sooner end table padded lines x y wide =
     rw (front, all) (front_len lines (characters end table (take n x)) (encoding_of end table padded (drop n x ++ y)) wide)
 
 -- what a piece is refused for, all pieces are
-pub refused_sooner : (end : End) (table : List ℕ) (padded : Bool) (lines : Option (ℕ × LineEnding)) (x y whole : List ℕ) (room : ℕ) → IsWideEnough lines → x ++ y ≡ whole
+pub refused_sooner : (end : End) (table : List ℕ) (padded : Bool) (lines : Option (ℕ × LineEnding)) (x y whole : List ℕ) (room : ℕ) → IsWideEnough lines
+    → x ++ y ≡ whole
     → (length (in_lines lines (encoding_of end table padded (whole_groups x))) ≤ room → ⊥) → room < length (in_lines lines (encoding_of end table padded whole))
 refused_sooner end table padded lines x y whole room wide is over =
     let l = sooner end table padded lines x y wide in
@@ -48,8 +50,10 @@ refused_sooner end table padded lines x y whole room wide is over =
     ])
 
 -- a further piece
-pub one_more : {X : Type 0} (f : X → List ℕ) (pieces : List X) (i : ℕ) (d : X) (taken all : List ℕ) → i < length pieces → taken ++ flat_map f (drop i pieces) ≡ all
+pub one_more : {X : Type 0} (f : X → List ℕ) (pieces : List X) (i : ℕ) (d : X) (taken all : List ℕ) → i < length pieces
+    → taken ++ flat_map f (drop i pieces) ≡ all
     → (taken ++ f (get_or pieces i d)) ++ flat_map f (drop (i + 1) pieces) ≡ all
 one_more f pieces i d taken all here is =
     let next : i + 1 ≡ suc i = omega arith in
-    rw next (append_assoc taken (f (get_or pieces i d)) (flat_map f (drop (suc i) pieces)) ∙ ap (λ xs. taken ++ flat_map f xs) (sym (drop-cons pieces i d here)) ∙ is)
+    rw next (append_assoc taken (f (get_or pieces i d)) (flat_map f (drop (suc i) pieces))
+    ∙ ap (λ xs. taken ++ flat_map f xs) (sym (drop-cons pieces i d here)) ∙ is)

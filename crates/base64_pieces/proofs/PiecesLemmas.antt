@@ -1,5 +1,6 @@
 -- Bytes that were decoded in pieces.
-use Rattle.std.proofs.Common.{◌≡◌, ℕ, ◌+◌, ◌<◌, ◌≤◌, List, [], ◌∷◌, ◌++◌, length, take, drop, map, sum, arith, refl, ap, sym, ◌∙◌, ◌⊎◌, inl, inr, Option, Some, None, Contains, append_assoc, length-append}
+use Rattle.std.proofs.Common.{◌≡◌, ℕ, ◌+◌, ◌<◌, ◌≤◌, List, [], ◌∷◌, ◌++◌, length, take, drop, map, sum, arith, refl, ap, sym, ◌∙◌, ◌⊎◌, inl, inr, Option, Some}
+use Rattle.std.proofs.Common.{None, Contains, append_assoc, length-append}
 use Rattle.std.proofs.lemmas.List.{length-take-le, take-append-drop}
 use Rattle.std.proofs.lemmas.List.Elements.{Contains-append_left}
 use Rattle.base64_text.specs.declared.errors.Error.{Error}
@@ -26,7 +27,8 @@ one_more before left next was now now' piece lengths rest n total d items len sp
 }
 
 -- why a further piece was not taken
-pub stopped : (before left : List (Option ℕ)) (was now lengths : List ℕ) (total n rest : ℕ) (e : Error) → IsDone before left was now lengths total → sum lengths ≡ n + rest → IsTakeError left n e
+pub stopped : (before left : List (Option ℕ)) (was now lengths : List ℕ) (total n rest : ℕ) (e : Error) → IsDone before left was now lengths total
+    → sum lengths ≡ n + rest → IsTakeError left n e
     → ((e ≡ InvalidLength) × (length before < total)) ⊎ ((e ≡ InvalidEncoding) × Contains (take total before) None)
 stopped before left was now lengths total n rest InvalidLength d split h =
     let l = ap length d.items in
@@ -41,7 +43,8 @@ stopped before left was now lengths total n rest InvalidEncoding d split h =
 stopped before left was now lengths total n rest OutOfMemory d split h = absurd h
 
 -- bytes that are all there are not refused
-pub not_stopped : (before : List (Option ℕ)) (b : List ℕ) (total : ℕ) (e : Error) → ((e ≡ InvalidLength) × (length before < total)) ⊎ ((e ≡ InvalidEncoding) × Contains (take total before) None)
+pub not_stopped : (before : List (Option ℕ)) (b : List ℕ) (total : ℕ) (e : Error) → ((e ≡ InvalidLength) × (length before < total))
+    ⊎ ((e ≡ InvalidEncoding) × Contains (take total before) None)
     → before ≡ map Some b → total ≤ length b → ⊥
 not_stopped before b total e (inl h) is fits = let l = ap length is in let m = length-map_some b in let n = h.1 in omega arith
 not_stopped before b total e (inr h) is fits =
@@ -59,7 +62,8 @@ first_ones b [] left is = refl
 first_ones [] (d ∷ ds) left is = let l = ap length is in absurd (omega arith)
 first_ones (x ∷ xs) (d ∷ ds) left is = let h : x ≡ d = ap first_value is in rw (h, first_ones xs ds left (ap (drop 1) is)) refl
 
-pub all_done : (before left : List (Option ℕ)) (was now lengths b : List ℕ) (total : ℕ) → IsDone before left was now lengths total → sum lengths ≡ 0 → before ≡ map Some b → now ≡ was ++ take total b
+pub all_done : (before left : List (Option ℕ)) (was now lengths b : List ℕ) (total : ℕ) → IsDone before left was now lengths total → sum lengths ≡ 0
+    → before ≡ map Some b → now ≡ was ++ take total b
 all_done before left was now lengths b total d none is =
     let c = d.count in
     let e : total ≡ length d.done = omega arith in

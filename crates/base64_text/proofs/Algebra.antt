@@ -66,6 +66,7 @@ pub digit_at : (table : List ℕ) (k : ℕ) → is_distinct table ≡ true → k
 digit_at [] k d h = absurd (omega arith)
 digit_at (x ∷ xs) zero d h = rw (same x) refl
 digit_at (x ∷ xs) (suc k) d h = elim (cases_Bool (x == slice_index xs k)) [
-  | inl e ↦ absurd (let i = is_in_at xs k (omega arith) in let n = (and_parts (not (is_in xs x)) (is_distinct xs) d).0 in let y : x ≡ slice_index xs k = eqb-true x _ e in let bad : not true ≡ true = rw (y, i) at n in no_not bad)
+  | inl e ↦ absurd (let i = is_in_at xs k (omega arith) in let n = (and_parts (not (is_in xs x)) (is_distinct xs) d).0 in let y : x ≡ slice_index xs k =
+      eqb-true x _ e in let bad : not true ≡ true = rw (y, i) at n in no_not bad)
   | inr e ↦ rw e (ap suc (digit_at xs k (and_parts (not (is_in xs x)) (is_distinct xs) d).1 (omega arith)))
 ]

@@ -1,5 +1,6 @@
 -- How many conversions a decoding makes.
-use Rattle.std.proofs.Common.{◌≡◌, ◌≢◌, ℕ, zero, suc, ◌+◌, ◌%◌, ◌<◌, ◌≤◌, Bool, true, false, not, ◌&&◌, ◌||◌, ◌==◌, ◌↔◌, List, length, nat_le, arith, refl, ◌∙◌, if◌then◌else◌, inl, inr}
+use Rattle.std.proofs.Common.{◌≡◌, ◌≢◌, ℕ, zero, suc, ◌+◌, ◌%◌, ◌<◌, ◌≤◌, Bool, true, false, not, ◌&&◌, ◌||◌, ◌==◌, ◌↔◌, List, length, nat_le, arith, refl}
+use Rattle.std.proofs.Common.{◌∙◌, if◌then◌else◌, inl, inr}
 use Rattle.std.proofs.lemmas.Bool.{cases_eq, eq-eqb, ne_eqb, le-leb, lt-leb, and_right}
 use Rattle.base64_text.specs.Canonical.{HasWholeBlocks, decoded_len, unpadded_len, is_clean, has_lengths}
 use Rattle.base64_text.specs.Counts.{loose_count, encode_count, decode_count}
@@ -9,17 +10,20 @@ whole_test : (padded : Bool) (n : ℕ) → (padded ≡ true → n % 4 ≡ 0) →
 whole_test false n h = refl
 whole_test true n h = rw (h refl) refl
 
-pub lengths_hold : (padded : Bool) (t : List ℕ) (space : ℕ) → HasWholeBlocks padded t → decoded_len (unpadded_len padded t) ≤ space → has_lengths padded t space ≡ true
+pub lengths_hold : (padded : Bool) (t : List ℕ) (space : ℕ) → HasWholeBlocks padded t → decoded_len (unpadded_len padded t) ≤ space
+    → has_lengths padded t space ≡ true
 lengths_hold padded t space whole room = rw (whole_test padded (length t) whole, le-leb (decoded_len (unpadded_len padded t)) space room) refl
 
 pub no_whole_blocks : (padded : Bool) (t : List ℕ) (space : ℕ) → padded ≡ true → length t % 4 ≢ 0 → has_lengths padded t space ≡ false
 no_whole_blocks padded t space is ne = rw (is, ne_eqb (length t % 4) 0 ne) refl
 
 pub no_room : (padded : Bool) (t : List ℕ) (space : ℕ) → space < decoded_len (unpadded_len padded t) → has_lengths padded t space ≡ false
-no_room padded t space short = and_right (not padded || (length t % 4 == 0)) (nat_le (decoded_len (unpadded_len padded t)) space) (lt-leb (decoded_len (unpadded_len padded t)) space short)
+no_room padded t space short = and_right (not padded || (length t % 4 == 0)) (nat_le (decoded_len (unpadded_len padded t)) space)
+    (lt-leb (decoded_len (unpadded_len padded t)) space short)
 
 -- the counts
-pub count_unclean : (table : List ℕ) (padded : Bool) (t : List ℕ) → is_clean table padded t ≡ false → decode_count table padded t ≡ loose_count (unpadded_len padded t)
+pub count_unclean : (table : List ℕ) (padded : Bool) (t : List ℕ) → is_clean table padded t ≡ false
+    → decode_count table padded t ≡ loose_count (unpadded_len padded t)
 count_unclean table padded t bad = rw bad (omega arith)
 
 pub count_empty : (table : List ℕ) (padded : Bool) (t : List ℕ) → length t ≡ 0 → decode_count table padded t ≡ loose_count (unpadded_len padded t)
@@ -48,7 +52,8 @@ last_count false u k some few whole = last_unpadded k some few ∙ elim (cases_e
   | inr ne ↦ rw (ne_eqb k 3 ne, ne_eqb (u % 4) 0 (λ z. ne (whole.1 z))) refl
 ]
 
-pub count_clean : (table : List ℕ) (padded : Bool) (t : List ℕ) (k : ℕ) → is_clean table padded t ≡ true → (length t ≡ 0 → ⊥) → 1 ≤ k → k ≤ 3 → ((k ≡ 3) ↔ (unpadded_len padded t % 4 ≡ 0))
+pub count_clean : (table : List ℕ) (padded : Bool) (t : List ℕ) (k : ℕ) → is_clean table padded t ≡ true → (length t ≡ 0 → ⊥) → 1 ≤ k → k ≤ 3
+    → ((k ≡ 3) ↔ (unpadded_len padded t % 4 ≡ 0))
     → loose_count (unpadded_len padded t) + encode_count padded k ≡ decode_count table padded t
 count_clean table padded t k clean ne some few whole =
     rw (clean, ne_eqb (length t) 0 ne, last_count padded (unpadded_len padded t) k some few whole)

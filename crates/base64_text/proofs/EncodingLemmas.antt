@@ -1,5 +1,6 @@
 -- An encoding by its whole groups and its rest.
-use Rattle.std.proofs.Common.{◌≡◌, ℕ, zero, suc, ◌+◌, ◌-◌, ◌*◌, ◌/◌, ◌%◌, ◌<◌, ◌≤◌, Bool, true, false, List, [], ◌∷◌, ◌++◌, length, slice_index, take, drop, All, IsAscii, if◌then◌else◌, arith, refl, ap, sym, ◌∙◌, length-append, replicate, Result, Ok, Err, IfOk}
+use Rattle.std.proofs.Common.{◌≡◌, ℕ, zero, suc, ◌+◌, ◌-◌, ◌*◌, ◌/◌, ◌%◌, ◌<◌, ◌≤◌, Bool, true, false, List, [], ◌∷◌, ◌++◌, length, slice_index, take, drop}
+use Rattle.std.proofs.Common.{All, IsAscii, if◌then◌else◌, arith, refl, ap, sym, ◌∙◌, length-append, replicate, Result, Ok, Err, IfOk}
 use Rattle.std.proofs.lemmas.Grind.{common_steps}
 use Rattle.std.proofs.lemmas.List.{take-append-drop, take_at}
 use Rattle.std.proofs.lemmas.List.Elements.{All-append, All-cons, All-nil, All-replicate, All-tail, All-take}
@@ -100,7 +101,8 @@ empty_value end table padded (x ∷ b) h = absurd (let s = some_characters end t
 all_of_four : (P : ℕ → Type 0) (p q r s : ℕ) → P p → P q → P r → P s → All P (p ∷ q ∷ r ∷ s ∷ [])
 all_of_four P p q r s a b c d = All-cons P p (q ∷ r ∷ s ∷ []) a (All-cons P q (r ∷ s ∷ []) b (All-cons P r (s ∷ []) c (All-cons P s [] d (All-nil P))))
 
-four_all : (P : ℕ → Type 0) (end : End) (table : List ℕ) (a b c : ℕ) → ((k : ℕ) → k < 64 → P (slice_index table k)) → a < 256 → b < 256 → c < 256 → All P (characters_of end table a b c)
+four_all : (P : ℕ → Type 0) (end : End) (table : List ℕ) (a b c : ℕ) → ((k : ℕ) → k < 64 → P (slice_index table k)) → a < 256 → b < 256 → c < 256
+    → All P (characters_of end table a b c)
 four_all P High table a b c h x y z =
     let n : ℕ = a * 65536 + b * 256 + c in
     all_of_four P (slice_index table (n / 262144)) (slice_index table (n / 4096 % 64)) (slice_index table (n / 64 % 64)) (slice_index table (n % 64))
@@ -113,14 +115,18 @@ four_all P Low table a b c h x y z =
 characters_all : (P : ℕ → Type 0) (end : End) (table b : List ℕ) → ((k : ℕ) → k < 64 → P (slice_index table k)) → IsBytes b → All P (characters end table b)
 unfolding characters
 characters_all P end table [] h bytes = All-nil P
-characters_all P end table (x ∷ []) h bytes = All-take P 2 (characters_of end table x 0 0) (four_all P end table x 0 0 h (bytes 0 0 (omega arith)) (omega arith) (omega arith))
-characters_all P end table (x ∷ y ∷ []) h bytes = All-take P 3 (characters_of end table x y 0) (four_all P end table x y 0 h (bytes 0 0 (omega arith)) (bytes 1 0 (omega arith)) (omega arith))
+characters_all P end table (x ∷ []) h bytes = All-take P 2 (characters_of end table x 0 0)
+    (four_all P end table x 0 0 h (bytes 0 0 (omega arith)) (omega arith) (omega arith))
+characters_all P end table (x ∷ y ∷ []) h bytes = All-take P 3 (characters_of end table x y 0)
+    (four_all P end table x y 0 h (bytes 0 0 (omega arith)) (bytes 1 0 (omega arith)) (omega arith))
 characters_all P end table (x ∷ y ∷ z ∷ b) h bytes = All-append P (characters_of end table x y z) (characters end table b)
     (four_all P end table x y z h (bytes 0 0 (omega arith)) (bytes 1 0 (omega arith)) (bytes 2 0 (omega arith)))
     (characters_all P end table b h (λ k d lt. bytes (suc (suc (suc k))) d (omega arith)))
 
-pub encoding_all : (P : ℕ → Type 0) (end : End) (table : List ℕ) (padded : Bool) (b : List ℕ) → ((k : ℕ) → k < 64 → P (slice_index table k)) → P 61 → IsBytes b → All P (encoding_of end table padded b)
-encoding_all P end table true b h pad bytes = All-append P (characters end table b) (replicate (padding_len (length b)) 61) (characters_all P end table b h bytes) (All-replicate P (padding_len (length b)) 61 pad)
+pub encoding_all : (P : ℕ → Type 0) (end : End) (table : List ℕ) (padded : Bool) (b : List ℕ) → ((k : ℕ) → k < 64 → P (slice_index table k)) → P 61
+    → IsBytes b → All P (encoding_of end table padded b)
+encoding_all P end table true b h pad bytes = All-append P (characters end table b) (replicate (padding_len (length b)) 61)
+    (characters_all P end table b h bytes) (All-replicate P (padding_len (length b)) 61 pad)
 encoding_all P end table false b h pad bytes = All-append P (characters end table b) [] (characters_all P end table b h bytes) (All-nil P)
 
 pub ascii_from_all : (xs : List ℕ) → All (λ c. c < 128) xs → IsAscii xs
@@ -128,7 +134,8 @@ ascii_from_all [] h i = omega arith
 ascii_from_all (x ∷ xs) h zero = h 0 0 (omega arith)
 ascii_from_all (x ∷ xs) h (suc i) = ascii_from_all xs (All-tail (λ c. c < 128) x xs h) i
 
-pub encoding_all_ascii : (end : End) (table : List ℕ) (padded : Bool) (b : List ℕ) → Facts table → IsBytes b → All (λ c. c < 128) (encoding_of end table padded b)
+pub encoding_all_ascii : (end : End) (table : List ℕ) (padded : Bool) (b : List ℕ) → Facts table → IsBytes b
+    → All (λ c. c < 128) (encoding_of end table padded b)
 encoding_all_ascii end table padded b f bytes = encoding_all (λ c. c < 128) end table padded b (λ k lt. ascii_at table f.ascii k) (omega arith) bytes
 
 pub encoding_ascii : (end : End) (table : List ℕ) (padded : Bool) (b : List ℕ) → Facts table → IsBytes b → IsAscii (encoding_of end table padded b)

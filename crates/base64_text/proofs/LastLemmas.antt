@@ -1,5 +1,6 @@
 -- The last block of a text.
-use Rattle.std.proofs.Common.{◌≡◌, ℕ, ◌+◌, ◌*◌, ◌/◌, ◌%◌, ◌<◌, ◌≤◌, Bool, true, false, ◌==◌, List, [], ◌∷◌, ◌++◌, length, slice_index, take, append-nil, set, arith, refl, if◌then◌else◌, ap, inl, inr, length-append, replicate, eqb}
+use Rattle.std.proofs.Common.{◌≡◌, ℕ, ◌+◌, ◌*◌, ◌/◌, ◌%◌, ◌<◌, ◌≤◌, Bool, true, false, ◌==◌, List, [], ◌∷◌, ◌++◌, length, slice_index, take, append-nil, set}
+use Rattle.std.proofs.Common.{arith, refl, if◌then◌else◌, ap, inl, inr, length-append, replicate, eqb}
 use Rattle.std.proofs.lemmas.Bool.{cases_Bool, eqb-true, both_ways}
 use Rattle.std.proofs.lemmas.List.{take-append-le}
 use Rattle.std.proofs.lemmas.Grind.{common_steps}
@@ -30,7 +31,8 @@ two_text end table [] dst h is = absurd (omega arith)
 two_text end table (a ∷ []) dst h is = absurd (omega arith)
 two_text end table (a ∷ b ∷ c ∷ bs) dst h is = absurd (omega arith)
 
-pub three_text : (end : End) (table bs dst : List ℕ) (padded : Bool) → length bs ≡ 3 → dst ≡ characters_of end table (slice_index bs 0) (slice_index bs 1) (slice_index bs 2) ++ []
+pub three_text : (end : End) (table bs dst : List ℕ) (padded : Bool) → length bs ≡ 3
+    → dst ≡ characters_of end table (slice_index bs 0) (slice_index bs 1) (slice_index bs 2) ++ []
     → take 4 dst ≡ encoding_of end table padded bs
 unfolding characters
 three_text High table (a ∷ b ∷ c ∷ []) dst true h is = rw is refl
@@ -66,13 +68,16 @@ pub record IsLast (end : End) (table : List ℕ) (padded : Bool) (last b : List 
   pub len : unpadded_len padded last ≡ length b + 1
   pub in_table : all_in table (filled (length b + 1) last) ≡ true
   pub clean : is_clean table padded last ≡ true
-  pub bytes : take (length b) (bytes_of end table (slice_index (filled (length b + 1) last) 0) (slice_index (filled (length b + 1) last) 1) (slice_index (filled (length b + 1) last) 2) (slice_index (filled (length b + 1) last) 3)) ≡ b
+  pub bytes : take (length b) (bytes_of end table (slice_index (filled (length b + 1) last) 0) (slice_index (filled (length b + 1) last) 1)
+      (slice_index (filled (length b + 1) last) 2) (slice_index (filled (length b + 1) last) 3)) ≡ b
 
 -- four characters that are in the table, by their digits
-in_all : (table : List ℕ) (a b c d : ℕ) → is_in table a ≡ true → is_in table b ≡ true → is_in table c ≡ true → is_in table d ≡ true → all_in table (a ∷ b ∷ c ∷ d ∷ []) ≡ true
+in_all : (table : List ℕ) (a b c d : ℕ) → is_in table a ≡ true → is_in table b ≡ true → is_in table c ≡ true → is_in table d ≡ true
+    → all_in table (a ∷ b ∷ c ∷ d ∷ []) ≡ true
 in_all table a b c d p q r s = rw (p, q, r, s) refl
 
-one_last : (end : End) (table : List ℕ) (padded : Bool) (x : ℕ) → Facts table → x < 256 → IsLast end table padded (encoding_of end table padded (x ∷ [])) (x ∷ [])
+one_last : (end : End) (table : List ℕ) (padded : Bool) (x : ℕ) → Facts table → x < 256
+    → IsLast end table padded (encoding_of end table padded (x ∷ [])) (x ∷ [])
 unfolding characters
 one_last High table padded x f lt =
     let n : ℕ = x * 65536 + 0 * 256 + 0 in
@@ -86,8 +91,25 @@ one_last High table padded x f lt =
     let dq = digit_at table (n / 4096 % 64) f.distinct (omega arith) in
     let byte : (n / 262144 * 262144 + n / 4096 % 64 * 4096 + digit_of table 65 * 64 + digit_of table 65) / 65536 ≡ x = omega arith in
     elim padded as (λ p. IsLast High table p (encoding_of High table p (x ∷ [])) (x ∷ [])) [
-      | true ↦ record { two = omega arith; some = omega arith; few = omega arith; len = refl; in_table = in_all table _ _ _ _ ip iq f.has_a f.has_a; clean = rw (ip, iq) refl; bytes = rw (dp, dq, byte) refl }
-      | false ↦ record { two = omega arith; some = omega arith; few = omega arith; len = refl; in_table = in_all table _ _ _ _ ip iq f.has_a f.has_a; clean = rw (ip, iq) refl; bytes = rw (dp, dq, byte) refl }
+      | true ↦ record {
+        two = omega arith;
+        some = omega arith;
+        few = omega arith;
+        len = refl;
+        in_table = in_all table _ _ _ _ ip iq f.has_a f.has_a;
+        clean =
+            rw (ip, iq) refl;
+        bytes = rw (dp, dq, byte) refl;
+      }
+      | false ↦ record {
+        two = omega arith;
+        some = omega arith;
+        few = omega arith;
+        len = refl;
+        in_table = in_all table _ _ _ _ ip iq f.has_a f.has_a;
+        clean = rw (ip, iq) refl;
+        bytes = rw (dp, dq, byte) refl;
+      }
     ]
 one_last Low table padded x f lt =
     let n : ℕ = 0 * 65536 + 0 * 256 + x in
@@ -101,11 +123,29 @@ one_last Low table padded x f lt =
     let dq = digit_at table (n / 64 % 64) f.distinct (omega arith) in
     let byte : (digit_of table 65 * 262144 + digit_of table 65 * 4096 + n / 64 % 64 * 64 + n % 64) % 256 ≡ x = omega arith in
     elim padded as (λ p. IsLast Low table p (encoding_of Low table p (x ∷ [])) (x ∷ [])) [
-      | true ↦ record { two = omega arith; some = omega arith; few = omega arith; len = refl; in_table = in_all table _ _ _ _ ip iq f.has_a f.has_a; clean = rw (ip, iq) refl; bytes = rw (dp, dq, byte) refl }
-      | false ↦ record { two = omega arith; some = omega arith; few = omega arith; len = refl; in_table = in_all table _ _ _ _ ip iq f.has_a f.has_a; clean = rw (ip, iq) refl; bytes = rw (dp, dq, byte) refl }
+      | true ↦ record {
+        two = omega arith;
+        some = omega arith;
+        few = omega arith;
+        len = refl;
+        in_table = in_all table _ _ _ _ ip iq f.has_a f.has_a;
+        clean =
+            rw (ip, iq) refl;
+        bytes = rw (dp, dq, byte) refl;
+      }
+      | false ↦ record {
+        two = omega arith;
+        some = omega arith;
+        few = omega arith;
+        len = refl;
+        in_table = in_all table _ _ _ _ ip iq f.has_a f.has_a;
+        clean = rw (ip, iq) refl;
+        bytes = rw (dp, dq, byte) refl;
+      }
     ]
 
-two_last : (end : End) (table : List ℕ) (padded : Bool) (x y : ℕ) → Facts table → x < 256 → y < 256 → IsLast end table padded (encoding_of end table padded (x ∷ y ∷ [])) (x ∷ y ∷ [])
+two_last : (end : End) (table : List ℕ) (padded : Bool) (x y : ℕ) → Facts table → x < 256 → y < 256
+    → IsLast end table padded (encoding_of end table padded (x ∷ y ∷ [])) (x ∷ y ∷ [])
 unfolding characters
 two_last High table padded x y f lt lu =
     let n : ℕ = x * 65536 + y * 256 + 0 in
@@ -124,8 +164,25 @@ two_last High table padded x y f lt lu =
     let byte : (n / 262144 * 262144 + n / 4096 % 64 * 4096 + n / 64 % 64 * 64 + digit_of table 65) / 65536 ≡ x = omega arith in
     let more : (n / 262144 * 262144 + n / 4096 % 64 * 4096 + n / 64 % 64 * 64 + digit_of table 65) / 256 % 256 ≡ y = omega arith in
     elim padded as (λ p. IsLast High table p (encoding_of High table p (x ∷ y ∷ [])) (x ∷ y ∷ [])) [
-      | true ↦ record { two = omega arith; some = omega arith; few = omega arith; len = rw ne refl; in_table = in_all table _ _ _ _ ip iq ir f.has_a; clean = rw (ne, ip, iq, ir) refl; bytes = rw (dp, dq, dr, byte, more) refl }
-      | false ↦ record { two = omega arith; some = omega arith; few = omega arith; len = refl; in_table = in_all table _ _ _ _ ip iq ir f.has_a; clean = rw (ip, iq, ir) refl; bytes = rw (dp, dq, dr, byte, more) refl }
+      | true ↦ record {
+        two = omega arith;
+        some = omega arith;
+        few = omega arith;
+        len = rw ne refl;
+        in_table = in_all table _ _ _ _ ip iq ir f.has_a;
+        clean = rw (ne, ip, iq, ir) refl;
+        bytes = rw (dp, dq, dr, byte, more) refl;
+      }
+      | false ↦ record {
+        two = omega arith;
+        some = omega arith;
+        few = omega arith;
+        len = refl;
+        in_table = in_all table _ _ _ _ ip iq ir f.has_a;
+        clean =
+            rw (ip, iq, ir) refl;
+        bytes = rw (dp, dq, dr, byte, more) refl;
+      }
     ]
 two_last Low table padded x y f lt lu =
     let n : ℕ = 0 * 65536 + y * 256 + x in
@@ -144,11 +201,29 @@ two_last Low table padded x y f lt lu =
     let byte : (digit_of table 65 * 262144 + n / 4096 % 64 * 4096 + n / 64 % 64 * 64 + n % 64) % 256 ≡ x = omega arith in
     let more : (digit_of table 65 * 262144 + n / 4096 % 64 * 4096 + n / 64 % 64 * 64 + n % 64) / 256 % 256 ≡ y = omega arith in
     elim padded as (λ p. IsLast Low table p (encoding_of Low table p (x ∷ y ∷ [])) (x ∷ y ∷ [])) [
-      | true ↦ record { two = omega arith; some = omega arith; few = omega arith; len = rw ne refl; in_table = in_all table _ _ _ _ ip iq ir f.has_a; clean = rw (ne, ip, iq, ir) refl; bytes = rw (dp, dq, dr, byte, more) refl }
-      | false ↦ record { two = omega arith; some = omega arith; few = omega arith; len = refl; in_table = in_all table _ _ _ _ ip iq ir f.has_a; clean = rw (ip, iq, ir) refl; bytes = rw (dp, dq, dr, byte, more) refl }
+      | true ↦ record {
+        two = omega arith;
+        some = omega arith;
+        few = omega arith;
+        len = rw ne refl;
+        in_table = in_all table _ _ _ _ ip iq ir f.has_a;
+        clean = rw (ne, ip, iq, ir) refl;
+        bytes = rw (dp, dq, dr, byte, more) refl;
+      }
+      | false ↦ record {
+        two = omega arith;
+        some = omega arith;
+        few = omega arith;
+        len = refl;
+        in_table = in_all table _ _ _ _ ip iq ir f.has_a;
+        clean =
+            rw (ip, iq, ir) refl;
+        bytes = rw (dp, dq, dr, byte, more) refl;
+      }
     ]
 
-three_last : (end : End) (table : List ℕ) (padded : Bool) (x y z : ℕ) → Facts table → x < 256 → y < 256 → z < 256 → IsLast end table padded (encoding_of end table padded (x ∷ y ∷ z ∷ [])) (x ∷ y ∷ z ∷ [])
+three_last : (end : End) (table : List ℕ) (padded : Bool) (x y z : ℕ) → Facts table → x < 256 → y < 256 → z < 256
+    → IsLast end table padded (encoding_of end table padded (x ∷ y ∷ z ∷ [])) (x ∷ y ∷ z ∷ [])
 unfolding characters
 three_last High table padded x y z f lt lu lv =
     let n : ℕ = x * 65536 + y * 256 + z in
@@ -169,8 +244,25 @@ three_last High table padded x y z f lt lu lv =
     let ds = digit_at table (n % 64) f.distinct (omega arith) in
     let back = ap (take 3) (bytes_back High x y z lt lu lv) in
     elim padded as (λ p. IsLast High table p (encoding_of High table p (x ∷ y ∷ z ∷ [])) (x ∷ y ∷ z ∷ [])) [
-      | true ↦ record { two = omega arith; some = omega arith; few = omega arith; len = rw (ne, nf) refl; in_table = in_all table _ _ _ _ ip iq ir is; clean = rw (ne, nf, ip, iq, ir, is) refl; bytes = rw (dp, dq, dr, ds, number_of_its_digits n) back }
-      | false ↦ record { two = omega arith; some = omega arith; few = omega arith; len = refl; in_table = in_all table _ _ _ _ ip iq ir is; clean = rw (ip, iq, ir, is) refl; bytes = rw (dp, dq, dr, ds, number_of_its_digits n) back }
+      | true ↦ record {
+        two = omega arith;
+        some = omega arith;
+        few = omega arith;
+        len = rw (ne, nf) refl;
+        in_table = in_all table _ _ _ _ ip iq ir is;
+        clean = rw (ne, nf, ip, iq, ir, is) refl;
+        bytes = rw (dp, dq, dr, ds, number_of_its_digits n) back;
+      }
+      | false ↦ record {
+        two = omega arith;
+        some = omega arith;
+        few = omega arith;
+        len = refl;
+        in_table = in_all table _ _ _ _ ip iq ir is;
+        clean =
+            rw (ip, iq, ir, is) refl;
+        bytes = rw (dp, dq, dr, ds, number_of_its_digits n) back;
+      }
     ]
 three_last Low table padded x y z f lt lu lv =
     let n : ℕ = z * 65536 + y * 256 + x in
@@ -191,8 +283,25 @@ three_last Low table padded x y z f lt lu lv =
     let ds = digit_at table (n / 262144) f.distinct (omega arith) in
     let back = ap (take 3) (bytes_back Low x y z lt lu lv) in
     elim padded as (λ p. IsLast Low table p (encoding_of Low table p (x ∷ y ∷ z ∷ [])) (x ∷ y ∷ z ∷ [])) [
-      | true ↦ record { two = omega arith; some = omega arith; few = omega arith; len = rw (ne, nf) refl; in_table = in_all table _ _ _ _ ip iq ir is; clean = rw (ne, nf, ip, iq, ir, is) refl; bytes = rw (dp, dq, dr, ds, number_of_its_digits n) back }
-      | false ↦ record { two = omega arith; some = omega arith; few = omega arith; len = refl; in_table = in_all table _ _ _ _ ip iq ir is; clean = rw (ip, iq, ir, is) refl; bytes = rw (dp, dq, dr, ds, number_of_its_digits n) back }
+      | true ↦ record {
+        two = omega arith;
+        some = omega arith;
+        few = omega arith;
+        len = rw (ne, nf) refl;
+        in_table = in_all table _ _ _ _ ip iq ir is;
+        clean = rw (ne, nf, ip, iq, ir, is) refl;
+        bytes = rw (dp, dq, dr, ds, number_of_its_digits n) back;
+      }
+      | false ↦ record {
+        two = omega arith;
+        some = omega arith;
+        few = omega arith;
+        len = refl;
+        in_table = in_all table _ _ _ _ ip iq ir is;
+        clean =
+            rw (ip, iq, ir, is) refl;
+        bytes = rw (dp, dq, dr, ds, number_of_its_digits n) back;
+      }
     ]
 
 length_some : (end : End) (table : List ℕ) (x : ℕ) (b : List ℕ) → 2 ≤ length (characters end table (x ∷ b))
@@ -206,20 +315,25 @@ length_some Low table x (y ∷ z ∷ b) = omega arith
 
 length_long : (end : End) (table : List ℕ) (padded : Bool) (x y z w : ℕ) (b : List ℕ) → 5 ≤ length (encoding_of end table padded (x ∷ y ∷ z ∷ w ∷ b))
 unfolding characters
-length_long High table padded x y z w b = let l = length_some High table w b in let e = length-append (characters High table (x ∷ y ∷ z ∷ w ∷ b)) (if padded then replicate (padding_len (length (x ∷ y ∷ z ∷ w ∷ b))) 61 else []) in omega arith
-length_long Low table padded x y z w b = let l = length_some Low table w b in let e = length-append (characters Low table (x ∷ y ∷ z ∷ w ∷ b)) (if padded then replicate (padding_len (length (x ∷ y ∷ z ∷ w ∷ b))) 61 else []) in omega arith
+length_long High table padded x y z w b = let l = length_some High table w b in let e =
+    length-append (characters High table (x ∷ y ∷ z ∷ w ∷ b)) (if padded then replicate (padding_len (length (x ∷ y ∷ z ∷ w ∷ b))) 61 else []) in omega arith
+length_long Low table padded x y z w b = let l = length_some Low table w b in let e =
+    length-append (characters Low table (x ∷ y ∷ z ∷ w ∷ b)) (if padded then replicate (padding_len (length (x ∷ y ∷ z ∷ w ∷ b))) 61 else []) in omega arith
 
 none_length : (end : End) (table : List ℕ) (padded : Bool) → length (encoding_of end table padded []) ≡ 0
 unfolding characters
 none_length end table true = refl
 none_length end table false = refl
 
-pub is_last : (end : End) (table : List ℕ) (padded : Bool) (last b : List ℕ) → Facts table → IsBytes b → 1 ≤ length last → length last ≤ 4 → last ≡ encoding_of end table padded b → IsLast end table padded last b
+pub is_last : (end : End) (table : List ℕ) (padded : Bool) (last b : List ℕ) → Facts table → IsBytes b → 1 ≤ length last → length last ≤ 4
+    → last ≡ encoding_of end table padded b → IsLast end table padded last b
 is_last end table padded last [] f bytes some few is = absurd (let e = none_length end table padded in let l = ap length is in omega arith)
 is_last end table padded last (x ∷ []) f bytes some few is = rw is (one_last end table padded x f (bytes 0 0 (omega arith)))
 is_last end table padded last (x ∷ y ∷ []) f bytes some few is = rw is (two_last end table padded x y f (bytes 0 0 (omega arith)) (bytes 1 0 (omega arith)))
-is_last end table padded last (x ∷ y ∷ z ∷ []) f bytes some few is = rw is (three_last end table padded x y z f (bytes 0 0 (omega arith)) (bytes 1 0 (omega arith)) (bytes 2 0 (omega arith)))
-is_last end table padded last (x ∷ y ∷ z ∷ w ∷ b) f bytes some few is = absurd (let e = length_long end table padded x y z w b in let l = ap length is in omega arith)
+is_last end table padded last (x ∷ y ∷ z ∷ []) f bytes some few is =
+    rw is (three_last end table padded x y z f (bytes 0 0 (omega arith)) (bytes 1 0 (omega arith)) (bytes 2 0 (omega arith)))
+is_last end table padded last (x ∷ y ∷ z ∷ w ∷ b) f bytes some few is =
+    absurd (let e = length_long end table padded x y z w b in let l = ap length is in omega arith)
 
 pub front_is : (n : ℕ) (xs ys b : List ℕ) → take n xs ≡ b → n ≡ length b → take n (xs ++ ys) ≡ b
 front_is n xs ys b h len =

@@ -1,5 +1,7 @@
 -- Clean texts and the bytes that they stand for.
-use Rattle.std.proofs.Common.{◌≡◌, ℕ, zero, suc, ◌+◌, ◌-◌, ◌*◌, ◌/◌, ◌%◌, ◌<◌, ◌≤◌, Bool, true, false, not, ◌&&◌, ◌||◌, ◌==◌, List, [], ◌∷◌, ◌++◌, length, slice_index, take, drop, arith, refl, ap, sym, ◌∙◌, ℤ, pos, nat_eq, of_z, append_assoc, if◌then◌else◌, replicate, inl, inr, ◌↔◌, length-append, length-drop}
+use Rattle.std.proofs.Common.{◌≡◌, ℕ, zero, suc, ◌+◌, ◌-◌, ◌*◌, ◌/◌, ◌%◌, ◌<◌, ◌≤◌, Bool, true, false, not, ◌&&◌, ◌||◌, ◌==◌, List, [], ◌∷◌, ◌++◌, length}
+use Rattle.std.proofs.Common.{slice_index, take, drop, arith, refl, ap, sym, ◌∙◌, ℤ, pos, nat_eq, of_z, append_assoc, if◌then◌else◌, replicate, inl, inr, ◌↔◌}
+use Rattle.std.proofs.Common.{length-append, length-drop}
 use Rattle.std.proofs.lemmas.Bool.{cases_lt, cases_eq, and_parts}
 use Rattle.std.proofs.lemmas.List.{take-append-drop, length-take-le, take-take, drop-take, take_at, drop_at, drop-drop, length-replicate}
 use mir.Syntax.{w16}
@@ -17,29 +19,35 @@ use Rattle.base64_text.proofs.EncodingLemmas.{empty_value}
 
 -- lists
 pub take_plus : (a k : ℕ) (xs : List ℕ) → take (a + k) xs ≡ take a xs ++ take k (drop a xs)
-take_plus a k xs = sym (take-append-drop a (take (a + k) xs)) ∙ ap (λ ys. ys ++ drop a (take (a + k) xs)) (take-take a (a + k) xs (omega arith)) ∙ ap (λ ys. take a xs ++ ys) (drop-take a k xs)
+take_plus a k xs = sym (take-append-drop a (take (a + k) xs)) ∙ ap (λ ys. ys ++ drop a (take (a + k) xs)) (take-take a (a + k) xs (omega arith))
+    ∙ ap (λ ys. take a xs ++ ys) (drop-take a k xs)
 
 pub take_over : (n k : ℕ) (xs ys : List ℕ) → length xs ≡ n → take (n + k) (xs ++ ys) ≡ xs ++ take k ys
-take_over n k xs ys is = take_plus n k (xs ++ ys) ∙ ap (λ zs. zs ++ take k (drop n (xs ++ ys))) (take_at xs ys n is) ∙ ap (λ zs. xs ++ take k zs) (drop_at xs ys n is)
+take_over n k xs ys is = take_plus n k (xs ++ ys) ∙ ap (λ zs. zs ++ take k (drop n (xs ++ ys))) (take_at xs ys n is)
+    ∙ ap (λ zs. xs ++ take k zs) (drop_at xs ys n is)
 
-pub bytes_of_blocks-append : (end : End) (table x y : List ℕ) → length x % 4 ≡ 0 → bytes_of_blocks end table (x ++ y) ≡ bytes_of_blocks end table x ++ bytes_of_blocks end table y
+pub bytes_of_blocks-append : (end : End) (table x y : List ℕ) → length x % 4 ≡ 0
+    → bytes_of_blocks end table (x ++ y) ≡ bytes_of_blocks end table x ++ bytes_of_blocks end table y
 unfolding bytes_of_blocks
 bytes_of_blocks-append end table [] y whole = refl
 bytes_of_blocks-append end table (p ∷ []) y whole = absurd (omega arith)
 bytes_of_blocks-append end table (p ∷ q ∷ []) y whole = absurd (omega arith)
 bytes_of_blocks-append end table (p ∷ q ∷ r ∷ []) y whole = absurd (omega arith)
 bytes_of_blocks-append end table (p ∷ q ∷ r ∷ s ∷ x) y whole =
-    ap (λ zs. bytes_of end table p q r s ++ zs) (bytes_of_blocks-append end table x y (omega arith)) ∙ sym (append_assoc (bytes_of end table p q r s) (bytes_of_blocks end table x) (bytes_of_blocks end table y))
+    ap (λ zs. bytes_of end table p q r s ++ zs) (bytes_of_blocks-append end table x y (omega arith))
+    ∙ sym (append_assoc (bytes_of end table p q r s) (bytes_of_blocks end table x) (bytes_of_blocks end table y))
 
 -- blocks behind others
 pub take_blocks_plus : (j k : ℕ) (chars : List ℕ) → take (4 * (j + k)) chars ≡ take (4 * j) chars ++ take (4 * k) (drop (4 * j) chars)
 take_blocks_plus j k chars = let e : 4 * (j + k) ≡ 4 * j + 4 * k = omega arith in rw e (take_plus (4 * j) (4 * k) chars)
 
 pub blocks_plus : (end : End) (table : List ℕ) (j k : ℕ) (chars : List ℕ) → 4 * j ≤ length chars
-    → bytes_of_blocks end table (take (4 * (j + k)) chars) ≡ bytes_of_blocks end table (take (4 * j) chars) ++ bytes_of_blocks end table (take (4 * k) (drop (4 * j) chars))
+    → bytes_of_blocks end table (take (4 * (j + k)) chars) ≡ bytes_of_blocks end table (take (4 * j) chars)
+    ++ bytes_of_blocks end table (take (4 * k) (drop (4 * j) chars))
 blocks_plus end table j k chars fits =
     let whole : length (take (4 * j) chars) ≡ 4 * j = length-take-le (4 * j) chars fits in
-    ap (bytes_of_blocks end table) (take_blocks_plus j k chars) ∙ bytes_of_blocks-append end table (take (4 * j) chars) (take (4 * k) (drop (4 * j) chars)) (omega arith)
+    ap (bytes_of_blocks end table) (take_blocks_plus j k chars)
+    ∙ bytes_of_blocks-append end table (take (4 * j) chars) (take (4 * k) (drop (4 * j) chars)) (omega arith)
 
 -- a block filled with `A`
 pub answer_zero : (p : Bool) (r : ℤ) → r ≡ (if p then pos 0 else pos 1) → nat_eq (of_z w16 r) 0 ≡ p
@@ -90,31 +98,39 @@ pub clean_parts : (table src : List ℕ) (padded : Bool) (u : ℕ) (rest : List 
 clean_parts table src padded u rest is whole cut =
     let le : u ≤ length src = (let l = unpadded_le padded src in omega arith) in
     let at : 4 * (u / 4) + (u - 4 * (u / 4)) ≡ u = omega arith in
-    let split : take u src ≡ take (4 * (u / 4)) src ++ rest = ap (λ n. take n src) (sym at) ∙ take_plus (4 * (u / 4)) (u - 4 * (u / 4)) src ∙ ap (λ ys. take (4 * (u / 4)) src ++ ys) (sym cut) in
+    let split : take u src ≡ take (4 * (u / 4)) src ++ rest = ap (λ n. take n src) (sym at) ∙ take_plus (4 * (u / 4)) (u - 4 * (u / 4)) src
+    ∙ ap (λ ys. take (4 * (u / 4)) src ++ ys) (sym cut) in
     let l = length-drop (4 * (u / 4)) src in
     let len : length rest ≡ u % 4 = ap length cut ∙ length-take-le (u - 4 * (u / 4)) (drop (4 * (u / 4)) src) (omega arith) ∙ omega arith in
-    let both : all_in table (take u src) ≡ (all_in table (take (4 * (u / 4)) src) && all_in table rest) = ap (all_in table) split ∙ all_in-append table (take (4 * (u / 4)) src) rest in
+    let both : all_in table (take u src) ≡ (all_in table (take (4 * (u / 4)) src) && all_in table rest) = ap (all_in table) split
+    ∙ all_in-append table (take (4 * (u / 4)) src) rest in
     let w = whole_test padded (length src) whole in
-    rw (← is, both, ← len) (five (all_in table (take (4 * (u / 4)) src)) (all_in table rest) (not (length rest == 1)) (all_pads (drop u src)) (not padded || (length src % 4 == 0)) w)
+    rw (← is, both, ← len) (five (all_in table (take (4 * (u / 4)) src)) (all_in table rest) (not (length rest == 1)) (all_pads (drop u src))
+    (not padded || (length src % 4 == 0)) w)
 
 -- the bytes of a clean text
 pub loose_parts : (end : End) (table src : List ℕ) (padded : Bool) (u : ℕ) (rest : List ℕ) → u ≡ unpadded_len padded src
     → rest ≡ take (u - 4 * (u / 4)) (drop (4 * (u / 4)) src)
-    → loose_bytes end table padded src ≡ bytes_of_blocks end table (take (4 * (u / 4)) src) ++ take (3 * (u % 4) / 4) (bytes_of_blocks end table (rest ++ replicate (4 - length rest) 65))
+    → loose_bytes end table padded src ≡ bytes_of_blocks end table (take (4 * (u / 4)) src)
+    ++ take (3 * (u % 4) / 4) (bytes_of_blocks end table (rest ++ replicate (4 - length rest) 65))
 loose_parts end table src padded u rest is cut =
     let le : u ≤ length src = (let l = unpadded_le padded src in omega arith) in
     let at : 4 * (u / 4) + (u - 4 * (u / 4)) ≡ u = omega arith in
-    let split : take u src ≡ take (4 * (u / 4)) src ++ rest = ap (λ n. take n src) (sym at) ∙ take_plus (4 * (u / 4)) (u - 4 * (u / 4)) src ∙ ap (λ ys. take (4 * (u / 4)) src ++ ys) (sym cut) in
+    let split : take u src ≡ take (4 * (u / 4)) src ++ rest = ap (λ n. take n src) (sym at) ∙ take_plus (4 * (u / 4)) (u - 4 * (u / 4)) src
+    ∙ ap (λ ys. take (4 * (u / 4)) src ++ ys) (sym cut) in
     let l = length-drop (4 * (u / 4)) src in
     let len : length rest ≡ u % 4 = ap length cut ∙ length-take-le (u - 4 * (u / 4)) (drop (4 * (u / 4)) src) (omega arith) ∙ omega arith in
     let front : length (take (4 * (u / 4)) src) ≡ 4 * (u / 4) = length-take-le (4 * (u / 4)) src (omega arith) in
-    let blocks : length (bytes_of_blocks end table (take (4 * (u / 4)) src)) ≡ 3 * (u / 4) = length-bytes_of_blocks end table (take (4 * (u / 4)) src) (omega arith) ∙ rw front (omega arith) in
-    let joined : bytes_of_blocks end table (take u src ++ replicate (3 - (u - 1) % 4) 65) ≡ bytes_of_blocks end table (take (4 * (u / 4)) src) ++ bytes_of_blocks end table (rest ++ replicate (3 - (u - 1) % 4) 65)
+    let blocks : length (bytes_of_blocks end table (take (4 * (u / 4)) src)) ≡ 3 * (u / 4) =
+    length-bytes_of_blocks end table (take (4 * (u / 4)) src) (omega arith) ∙ rw front (omega arith) in
+    let joined : bytes_of_blocks end table (take u src ++ replicate (3 - (u - 1) % 4) 65) ≡ bytes_of_blocks end table (take (4 * (u / 4)) src)
+    ++ bytes_of_blocks end table (rest ++ replicate (3 - (u - 1) % 4) 65)
     = rw split (ap (bytes_of_blocks end table) (append_assoc (take (4 * (u / 4)) src) rest (replicate (3 - (u - 1) % 4) 65))
     ∙ bytes_of_blocks-append end table (take (4 * (u / 4)) src) (rest ++ replicate (3 - (u - 1) % 4) 65) (omega arith)) in
     let cut_at : take (3 * (u / 4) + 3 * (u % 4) / 4) (bytes_of_blocks end table (take u src ++ replicate (3 - (u - 1) % 4) 65))
     ≡ bytes_of_blocks end table (take (4 * (u / 4)) src) ++ take (3 * (u % 4) / 4) (bytes_of_blocks end table (rest ++ replicate (3 - (u - 1) % 4) 65))
-    = rw joined (take_over (3 * (u / 4)) (3 * (u % 4) / 4) (bytes_of_blocks end table (take (4 * (u / 4)) src)) (bytes_of_blocks end table (rest ++ replicate (3 - (u - 1) % 4) 65)) blocks) in
+    = rw joined (take_over (3 * (u / 4)) (3 * (u % 4) / 4) (bytes_of_blocks end table (take (4 * (u / 4)) src))
+    (bytes_of_blocks end table (rest ++ replicate (3 - (u - 1) % 4) 65)) blocks) in
     rw (← is) (cut_at ∙ elim (cases_lt (u % 4) 2) [
       | inl few ↦ (let none : 3 * (u % 4) / 4 ≡ 0 = omega arith in rw none refl)
       | inr more ↦ (let fill : 3 - (u - 1) % 4 ≡ 4 - length rest = omega arith in rw fill refl)
@@ -135,34 +151,44 @@ clean_split table src padded q le two =
     let u = unpadded_split padded src (4 * q) le two in
     let v : ℕ = unpadded_len padded (drop (4 * q) src) in
     let l = length-drop (4 * q) src in
-    let first : take (4 * q + unpadded_len padded (drop (4 * q) src)) src ≡ take (4 * q) src ++ take (unpadded_len padded (drop (4 * q) src)) (drop (4 * q) src) = take_plus (4 * q) (unpadded_len padded (drop (4 * q) src)) src in
-    let behind : drop (4 * q + unpadded_len padded (drop (4 * q) src)) src ≡ drop (unpadded_len padded (drop (4 * q) src)) (drop (4 * q) src) = sym (drop-drop (unpadded_len padded (drop (4 * q) src)) (4 * q) src) in
+    let first : take (4 * q + unpadded_len padded (drop (4 * q) src)) src ≡ take (4 * q) src
+    ++ take (unpadded_len padded (drop (4 * q) src)) (drop (4 * q) src) = take_plus (4 * q) (unpadded_len padded (drop (4 * q) src)) src in
+    let behind : drop (4 * q + unpadded_len padded (drop (4 * q) src)) src ≡ drop (unpadded_len padded (drop (4 * q) src)) (drop (4 * q) src) =
+    sym (drop-drop (unpadded_len padded (drop (4 * q) src)) (4 * q) src) in
     let rest : (4 * q + unpadded_len padded (drop (4 * q) src)) % 4 ≡ unpadded_len padded (drop (4 * q) src) % 4 = omega arith in
     let size : length src % 4 ≡ length (drop (4 * q) src) % 4 = omega arith in
     ap (λ n. all_in table (take n src) && all_pads (drop n src) && not (n % 4 == 1) && (not padded || (length src % 4 == 0))) u
     ∙ rw (first, behind, rest, size, all_in-append table (take (4 * q) src) (take (unpadded_len padded (drop (4 * q) src)) (drop (4 * q) src)))
-    (four_and (all_in table (take (4 * q) src)) (all_in table (take (unpadded_len padded (drop (4 * q) src)) (drop (4 * q) src))) (all_pads (drop (unpadded_len padded (drop (4 * q) src)) (drop (4 * q) src)))
+    (four_and (all_in table (take (4 * q) src)) (all_in table (take (unpadded_len padded (drop (4 * q) src)) (drop (4 * q) src)))
+    (all_pads (drop (unpadded_len padded (drop (4 * q) src)) (drop (4 * q) src)))
     (not (unpadded_len padded (drop (4 * q) src) % 4 == 1)) (not padded || (length (drop (4 * q) src) % 4 == 0)))
 
-pub loose_split : (end : End) (table src : List ℕ) (padded : Bool) (q : ℕ) → 4 * q ≤ length src → (padded ≡ true → 2 ≤ length (drop (4 * q) src)) → 1 ≤ unpadded_len padded (drop (4 * q) src)
+pub loose_split : (end : End) (table src : List ℕ) (padded : Bool) (q : ℕ) → 4 * q ≤ length src → (padded ≡ true → 2 ≤ length (drop (4 * q) src))
+    → 1 ≤ unpadded_len padded (drop (4 * q) src)
     → loose_bytes end table padded src ≡ bytes_of_blocks end table (take (4 * q) src) ++ loose_bytes end table padded (drop (4 * q) src)
 loose_split end table src padded q le two some =
     let u = unpadded_split padded src (4 * q) le two in
     let l = length-drop (4 * q) src in
-    let first : take (4 * q + unpadded_len padded (drop (4 * q) src)) src ≡ take (4 * q) src ++ take (unpadded_len padded (drop (4 * q) src)) (drop (4 * q) src) = take_plus (4 * q) (unpadded_len padded (drop (4 * q) src)) src in
+    let first : take (4 * q + unpadded_len padded (drop (4 * q) src)) src ≡ take (4 * q) src
+    ++ take (unpadded_len padded (drop (4 * q) src)) (drop (4 * q) src) = take_plus (4 * q) (unpadded_len padded (drop (4 * q) src)) src in
     let fill : (4 * q + unpadded_len padded (drop (4 * q) src) - 1) % 4 ≡ (unpadded_len padded (drop (4 * q) src) - 1) % 4 = omega arith in
     let room : decoded_len (4 * q + unpadded_len padded (drop (4 * q) src)) ≡ 3 * q + decoded_len (unpadded_len padded (drop (4 * q) src)) = omega arith in
     let front : length (take (4 * q) src) ≡ 4 * q = length-take-le (4 * q) src le in
-    let blocks : length (bytes_of_blocks end table (take (4 * q) src)) ≡ 3 * q = length-bytes_of_blocks end table (take (4 * q) src) (omega arith) ∙ rw front (omega arith) in
+    let blocks : length (bytes_of_blocks end table (take (4 * q) src)) ≡ 3 * q = length-bytes_of_blocks end table (take (4 * q) src) (omega arith)
+    ∙ rw front (omega arith) in
     let rest : List ℕ = take (unpadded_len padded (drop (4 * q) src)) (drop (4 * q) src) in
     ap (λ n. take (decoded_len n) (bytes_of_blocks end table (take n src ++ replicate (3 - (n - 1) % 4) 65))) u
-    ∙ ap (λ n. take n (bytes_of_blocks end table (take (4 * q + unpadded_len padded (drop (4 * q) src)) src ++ replicate (3 - (4 * q + unpadded_len padded (drop (4 * q) src) - 1) % 4) 65))) room
+    ∙ ap (λ n. take n (bytes_of_blocks end table (take (4 * q + unpadded_len padded (drop (4 * q) src)) src
+    ++ replicate (3 - (4 * q + unpadded_len padded (drop (4 * q) src) - 1) % 4) 65))) room
     ∙ rw (first, fill) (ap (λ xs. take (3 * q + decoded_len (unpadded_len padded (drop (4 * q) src))) (bytes_of_blocks end table xs))
-    (append_assoc (take (4 * q) src) (take (unpadded_len padded (drop (4 * q) src)) (drop (4 * q) src)) (replicate (3 - (unpadded_len padded (drop (4 * q) src) - 1) % 4) 65))
+    (append_assoc (take (4 * q) src) (take (unpadded_len padded (drop (4 * q) src)) (drop (4 * q) src))
+    (replicate (3 - (unpadded_len padded (drop (4 * q) src) - 1) % 4) 65))
     ∙ ap (take (3 * q + decoded_len (unpadded_len padded (drop (4 * q) src))))
-    (bytes_of_blocks-append end table (take (4 * q) src) (take (unpadded_len padded (drop (4 * q) src)) (drop (4 * q) src) ++ replicate (3 - (unpadded_len padded (drop (4 * q) src) - 1) % 4) 65) (omega arith))
+    (bytes_of_blocks-append end table (take (4 * q) src) (take (unpadded_len padded (drop (4 * q) src)) (drop (4 * q) src)
+    ++ replicate (3 - (unpadded_len padded (drop (4 * q) src) - 1) % 4) 65) (omega arith))
     ∙ take_over (3 * q) (decoded_len (unpadded_len padded (drop (4 * q) src))) (bytes_of_blocks end table (take (4 * q) src))
-    (bytes_of_blocks end table (take (unpadded_len padded (drop (4 * q) src)) (drop (4 * q) src) ++ replicate (3 - (unpadded_len padded (drop (4 * q) src) - 1) % 4) 65)) blocks)
+    (bytes_of_blocks end table (take (unpadded_len padded (drop (4 * q) src)) (drop (4 * q) src)
+    ++ replicate (3 - (unpadded_len padded (drop (4 * q) src) - 1) % 4) 65)) blocks)
 
 -- an encoding is clean, and its bytes are those that it stands for
 pub record IsText (end : End) (table : List ℕ) (padded : Bool) (src b : List ℕ) : Type 0 where
@@ -178,7 +204,8 @@ unfolding bytes_of_blocks
 empty_loose end table true = refl
 empty_loose end table false = refl
 
-pub is_text : (end : End) (table : List ℕ) (padded : Bool) (src b : List ℕ) → Facts table → IsBytes b → src ≡ encoding_of end table padded b → IsText end table padded src b
+pub is_text : (end : End) (table : List ℕ) (padded : Bool) (src b : List ℕ) → Facts table → IsBytes b → src ≡ encoding_of end table padded b
+    → IsText end table padded src b
 is_text end table padded [] b f bytes is = record {
   clean = empty_clean table padded;
   loose = empty_loose end table padded ∙ sym (empty_value end table padded b (sym is));
@@ -188,7 +215,8 @@ is_text end table padded (x ∷ src) b f bytes is =
     let q : ℕ = (length (x ∷ src) - 1) / 4 in
     let h = halves end table padded (x ∷ src) b ((length (x ∷ src) - 1) / 4) (omega arith) bytes is in
     let l = length-drop (4 * ((length (x ∷ src) - 1) / 4)) (x ∷ src) in
-    let last = is_last end table padded (drop (4 * ((length (x ∷ src) - 1) / 4)) (x ∷ src)) (drop (3 * ((length (x ∷ src) - 1) / 4)) b) f h.rest_bytes (omega arith) (omega arith) h.rest in
+    let last = is_last end table padded (drop (4 * ((length (x ∷ src) - 1) / 4)) (x ∷ src)) (drop (3 * ((length (x ∷ src) - 1) / 4)) b) f h.rest_bytes
+    (omega arith) (omega arith) h.rest in
     let two = last.two in
     let len = last.len in
     let front = bytes_of_blocks_characters end table (take (3 * ((length (x ∷ src) - 1) / 4)) b) f h.front_bytes h.whole in
@@ -197,7 +225,8 @@ is_text end table padded (x ∷ src) b f bytes is =
       loose = loose_split end table (x ∷ src) padded ((length (x ∷ src) - 1) / 4) (omega arith) (λ p. last.two) (omega arith)
           ∙ ap (λ xs. bytes_of_blocks end table xs ++ loose_bytes end table padded (drop (4 * ((length (x ∷ src) - 1) / 4)) (x ∷ src))) h.front
           ∙ ap (λ xs. xs ++ loose_bytes end table padded (drop (4 * ((length (x ∷ src) - 1) / 4)) (x ∷ src))) front.1
-          ∙ ap (λ xs. take (3 * ((length (x ∷ src) - 1) / 4)) b ++ xs) (last_loose end table padded (drop (4 * ((length (x ∷ src) - 1) / 4)) (x ∷ src)) (drop (3 * ((length (x ∷ src) - 1) / 4)) b) last)
+          ∙ ap (λ xs. take (3 * ((length (x ∷ src) - 1) / 4)) b ++ xs)
+          (last_loose end table padded (drop (4 * ((length (x ∷ src) - 1) / 4)) (x ∷ src)) (drop (3 * ((length (x ∷ src) - 1) / 4)) b) last)
           ∙ take-append-drop (3 * ((length (x ∷ src) - 1) / 4)) b;
     }
 
@@ -210,9 +239,12 @@ length-loose_bytes end table src padded =
           let front : length (take (unpadded_len padded src) src) ≡ unpadded_len padded src = length-take-le (unpadded_len padded src) src le in
           let l = length-append (take (unpadded_len padded src) src) (replicate (3 - (unpadded_len padded src - 1) % 4) 65) in
           let r = length-replicate {A = ℕ} (3 - (unpadded_len padded src - 1) % 4) 65 in
-          let n : length (take (unpadded_len padded src) src ++ replicate (3 - (unpadded_len padded src - 1) % 4) 65) ≡ unpadded_len padded src + (3 - (unpadded_len padded src - 1) % 4) = omega arith in
-          let blocks = length-bytes_of_blocks end table (take (unpadded_len padded src) src ++ replicate (3 - (unpadded_len padded src - 1) % 4) 65) (omega (arith, some)) in
-          length-take-le (decoded_len (unpadded_len padded src)) (bytes_of_blocks end table (take (unpadded_len padded src) src ++ replicate (3 - (unpadded_len padded src - 1) % 4) 65)) (omega (arith, some)))
+          let n : length (take (unpadded_len padded src) src ++ replicate (3 - (unpadded_len padded src - 1) % 4) 65) ≡ unpadded_len padded src
+          + (3 - (unpadded_len padded src - 1) % 4) = omega arith in
+          let blocks = length-bytes_of_blocks end table (take (unpadded_len padded src) src ++ replicate (3 - (unpadded_len padded src - 1) % 4) 65)
+          (omega (arith, some)) in
+          length-take-le (decoded_len (unpadded_len padded src))
+          (bytes_of_blocks end table (take (unpadded_len padded src) src ++ replicate (3 - (unpadded_len padded src - 1) % 4) 65)) (omega (arith, some)))
     ]
 
 -- the last block of a clean text, and its bytes
@@ -228,7 +260,8 @@ pub record IsLoose (end : End) (table src : List ℕ) (padded : Bool) (q : ℕ) 
 not_one : (n : ℕ) → not (n == 1) ≡ true → n ≡ 1 → ⊥
 not_one n h e = let bad : not true ≡ true = rw e at h in cc
 
-pub is_loose : (end : End) (table src : List ℕ) (padded : Bool) (q : ℕ) → q ≡ (length src - 1) / 4 → 0 < length src → HasWholeBlocks padded src → is_clean table padded src ≡ true
+pub is_loose : (end : End) (table src : List ℕ) (padded : Bool) (q : ℕ) → q ≡ (length src - 1) / 4 → 0 < length src → HasWholeBlocks padded src
+    → is_clean table padded src ≡ true
     → IsLoose end table src padded q
 is_loose end table src padded q at some whole clean =
     let l = length-drop (4 * q) src in
@@ -237,12 +270,17 @@ is_loose end table src padded q at some whole clean =
     let one = last_some padded (drop (4 * q) src) (omega arith) four in
     let le = unpadded_le padded (drop (4 * q) src) in
     let u = unpadded_split padded src (4 * q) (omega arith) two in
-    let parts = and_parts (all_in table (take (4 * q) src)) (is_clean table padded (drop (4 * q) src)) (sym (clean_split table src padded q (omega arith) two) ∙ clean) in
-    let last = and_parts (all_in table (take (unpadded_len padded src) src) && all_pads (drop (unpadded_len padded src) src) && not (unpadded_len padded src % 4 == 1)) (not padded || (length src % 4 == 0)) clean in
-    let ne = not_one (unpadded_len padded src % 4) (and_parts (all_in table (take (unpadded_len padded src) src) && all_pads (drop (unpadded_len padded src) src)) (not (unpadded_len padded src % 4 == 1)) last.0).1 in
+    let parts = and_parts (all_in table (take (4 * q) src)) (is_clean table padded (drop (4 * q) src))
+    (sym (clean_split table src padded q (omega arith) two) ∙ clean) in
+    let last = and_parts (all_in table (take (unpadded_len padded src) src) && all_pads (drop (unpadded_len padded src) src) && not
+    (unpadded_len padded src % 4 == 1)) (not padded || (length src % 4 == 0)) clean in
+    let ne = not_one (unpadded_len padded src % 4) (and_parts
+    (all_in table (take (unpadded_len padded src) src) && all_pads (drop (unpadded_len padded src) src)) (not (unpadded_len padded src % 4 == 1))
+    last.0).1 in
     let split = loose_split end table src padded q (omega arith) two one in
     let front : length (take (4 * q) src) ≡ 4 * q = length-take-le (4 * q) src (omega arith) in
-    let blocks : length (bytes_of_blocks end table (take (4 * q) src)) ≡ 3 * q = length-bytes_of_blocks end table (take (4 * q) src) (omega arith) ∙ rw front (omega arith) in
+    let blocks : length (bytes_of_blocks end table (take (4 * q) src)) ≡ 3 * q = length-bytes_of_blocks end table (take (4 * q) src) (omega arith)
+    ∙ rw front (omega arith) in
     record {
       front = parts.0;
       within = omega (arith, ne);
@@ -254,11 +292,14 @@ is_loose end table src padded q at some whole clean =
     }
 
 -- a clean text whose last block is the encoding of its last bytes is the encoding of its bytes
-pub text_from_last : (end : End) (table src last : List ℕ) (padded : Bool) (q : ℕ) → Facts table → q ≡ (length src - 1) / 4 → 0 < length src → IsLoose end table src padded q
-    → last ≡ drop (3 * q) (loose_bytes end table padded src) → drop (4 * q) src ≡ encoding_of end table padded last → src ≡ encoding_of end table padded (loose_bytes end table padded src)
+pub text_from_last : (end : End) (table src last : List ℕ) (padded : Bool) (q : ℕ) → Facts table → q ≡ (length src - 1) / 4 → 0 < length src
+    → IsLoose end table src padded q
+    → last ≡ drop (3 * q) (loose_bytes end table padded src) → drop (4 * q) src ≡ encoding_of end table padded last
+    → src ≡ encoding_of end table padded (loose_bytes end table padded src)
 text_from_last end table src last padded q f at some loose is text =
     whole_text end table padded src last q f (omega arith) loose.front text
-    ∙ ap (λ xs. encoding_of end table padded (bytes_of_blocks end table (take (4 * q) src) ++ xs)) (is ∙ loose.last) ∙ ap (encoding_of end table padded) (sym loose.split)
+    ∙ ap (λ xs. encoding_of end table padded (bytes_of_blocks end table (take (4 * q) src) ++ xs)) (is ∙ loose.last)
+    ∙ ap (encoding_of end table padded) (sym loose.split)
 
 -- and no other text has bytes
 pub none_from_last : (end : End) (table src last : List ℕ) (padded : Bool) (q : ℕ) → Facts table → q ≡ (length src - 1) / 4 → 0 < length src

@@ -42,6 +42,7 @@ pub no_text : (t : List ℕ) → length t ≡ 0 → t ≡ []
 no_text [] h = refl
 no_text (x ∷ t) h = absurd (omega arith)
 
-pub no_blocks_text : (end : End) (table : List ℕ) (padded : Bool) (t b : List ℕ) → padded ≡ true → (length t % 4 ≡ 0 → ⊥) → t ≡ encoding_of end table padded b → ⊥
+pub no_blocks_text : (end : End) (table : List ℕ) (padded : Bool) (t b : List ℕ) → padded ≡ true → (length t % 4 ≡ 0 → ⊥)
+    → t ≡ encoding_of end table padded b → ⊥
 no_blocks_text end table true t b is ne text = ne (whole_blocks end table t b text)
 no_blocks_text end table false t b is ne text = cc

@@ -8,7 +8,8 @@ use borrow.Rule.Slice.PartMut.{put_mid}
 pub rest_kept : (dst now copied : List ℕ) (a k n : ℕ) → drop a now ≡ drop a dst → a ≤ length now → length copied ≡ k → n ≡ a + k
     → drop n (put_mid a k now copied) ≡ drop n dst
 rest_kept dst now copied a k n kept low len is =
-    drop-put_mid a k now copied n (omega arith) low len ∙ ap (λ i. drop i now) is ∙ sym (drop-drop k a now) ∙ ap (drop k) kept ∙ drop-drop k a dst ∙ ap (λ i. drop i dst) (sym is)
+    drop-put_mid a k now copied n (omega arith) low len ∙ ap (λ i. drop i now) is ∙ sym (drop-drop k a now) ∙ ap (drop k) kept ∙ drop-drop k a dst
+    ∙ ap (λ i. drop i dst) (sym is)
 
 -- a front that was written
 pub front_kept : (t dst now : List ℕ) (m a : ℕ) → now ≡ t ++ drop m dst → length t ≡ a → m ≡ a → drop a now ≡ drop a dst

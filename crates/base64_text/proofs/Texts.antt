@@ -1,5 +1,6 @@
 -- Whole bytes_of_blocks there and back.
-use Rattle.std.proofs.Common.{◌≡◌, ℕ, suc, ◌+◌, ◌*◌, ◌/◌, ◌%◌, ◌<◌, true, List, [], ◌∷◌, ◌++◌, length, slice_index, arith, refl, ap, sym, ◌∙◌, map, append_assoc}
+use Rattle.std.proofs.Common.{◌≡◌, ℕ, suc, ◌+◌, ◌*◌, ◌/◌, ◌%◌, ◌<◌, true, List, [], ◌∷◌, ◌++◌, length, slice_index, arith, refl, ap, sym, ◌∙◌, map}
+use Rattle.std.proofs.Common.{append_assoc}
 use Rattle.std.proofs.lemmas.Bool.{and_parts}
 use Rattle.base64_alphabet.specs.Encoding.{bytes_of_blocks, characters}
 use Rattle.base64_alphabet.specs.Group.{End, High, Low, bytes_of_places, characters_of}
@@ -10,15 +11,19 @@ use Rattle.base64_text.proofs.Algebra.{bytes_back, digits_back, number_of_bytes,
 
 -- the characters of a group of four digits
 characters_group : (end : End) (table : List ℕ) (p q r s : ℕ) (rest : List ℕ) → p < 64 → q < 64 → r < 64 → s < 64
-    → characters end table (bytes_of_places end p q r s ++ rest) ≡ (slice_index table p ∷ slice_index table q ∷ slice_index table r ∷ slice_index table s ∷ []) ++ characters end table rest
+    → characters end table (bytes_of_places end p q r s ++ rest)
+    ≡ (slice_index table p ∷ slice_index table q ∷ slice_index table r ∷ slice_index table s ∷ []) ++ characters end table rest
 unfolding characters
 characters_group High table p q r s rest a b c d =
-    rw (number_of_bytes (p * 262144 + q * 4096 + r * 64 + s)) (ap (λ ds. map (slice_index table) ds ++ characters High table rest) (digits_back High p q r s a b c d))
+    rw (number_of_bytes (p * 262144 + q * 4096 + r * 64 + s))
+    (ap (λ ds. map (slice_index table) ds ++ characters High table rest) (digits_back High p q r s a b c d))
 characters_group Low table p q r s rest a b c d =
-    rw (number_of_bytes (s * 262144 + r * 4096 + q * 64 + p)) (ap (λ ds. map (slice_index table) ds ++ characters Low table rest) (digits_back Low p q r s a b c d))
+    rw (number_of_bytes (s * 262144 + r * 4096 + q * 64 + p))
+    (ap (λ ds. map (slice_index table) ds ++ characters Low table rest) (digits_back Low p q r s a b c d))
 
 -- whole blocks in the table are the characters of their bytes
-pub characters_bytes_of_blocks : (end : End) (table t : List ℕ) → Facts table → length t % 4 ≡ 0 → all_in table t ≡ true → characters end table (bytes_of_blocks end table t) ≡ t
+pub characters_bytes_of_blocks : (end : End) (table t : List ℕ) → Facts table → length t % 4 ≡ 0 → all_in table t ≡ true
+    → characters end table (bytes_of_blocks end table t) ≡ t
 unfolding characters bytes_of_blocks
 characters_bytes_of_blocks end table [] f whole h = refl
 characters_bytes_of_blocks end table (p ∷ []) f whole h = absurd (omega arith)
@@ -53,10 +58,16 @@ in_four table p q r s rest len a b c d =
     rw (ip, iq, ir, is)
 
 pub digits_at : (table : List ℕ) (p q r s : ℕ) → Facts table → p < 64 → q < 64 → r < 64 → s < 64
-    → (digit_of table (slice_index table p) ≡ p) × (digit_of table (slice_index table q) ≡ q) × (digit_of table (slice_index table r) ≡ r) × (digit_of table (slice_index table s) ≡ s)
+    → (digit_of table (slice_index table p) ≡ p) × (digit_of table (slice_index table q) ≡ q) × (digit_of table (slice_index table r) ≡ r)
+    × (digit_of table (slice_index table s) ≡ s)
 digits_at table p q r s f a b c d =
-    let len = f.len in
-    (digit_at table p f.distinct (omega arith), digit_at table q f.distinct (omega arith), digit_at table r f.distinct (omega arith), digit_at table s f.distinct (omega arith))
+    let len = f.len in (
+      digit_at table p f.distinct (omega arith),
+      digit_at table q f.distinct (omega arith),
+      digit_at table r f.distinct (omega arith),
+      digit_at table s
+          f.distinct (omega arith),
+    )
 
 group_is : (end : End) (table : List ℕ) (a b c : ℕ) → Facts table → a < 256 → b < 256 → c < 256 → Group end table a b c
 unfolding bytes_of_blocks
@@ -102,4 +113,5 @@ characters-append end table [] y whole = refl
 characters-append end table (a ∷ []) y whole = absurd (omega arith)
 characters-append end table (a ∷ b ∷ []) y whole = absurd (omega arith)
 characters-append end table (a ∷ b ∷ c ∷ x) y whole =
-    ap (λ xs. characters_of end table a b c ++ xs) (characters-append end table x y (omega arith)) ∙ sym (append_assoc (characters_of end table a b c) (characters end table x) (characters end table y))
+    ap (λ xs. characters_of end table a b c ++ xs) (characters-append end table x y (omega arith))
+    ∙ sym (append_assoc (characters_of end table a b c) (characters end table x) (characters end table y))

@@ -1,5 +1,6 @@
 -- A text by its front and its last block.
-use Rattle.std.proofs.Common.{◌≡◌, ℕ, zero, suc, ◌+◌, ◌-◌, ◌*◌, ◌/◌, ◌%◌, ◌<◌, ◌≤◌, Bool, true, false, List, [], ◌∷◌, ◌++◌, length, take, drop, arith, refl, if◌then◌else◌, ap, sym, ◌∙◌, append_assoc, length-append, length-drop, replicate, count_by, ◌==◌}
+use Rattle.std.proofs.Common.{◌≡◌, ℕ, zero, suc, ◌+◌, ◌-◌, ◌*◌, ◌/◌, ◌%◌, ◌<◌, ◌≤◌, Bool, true, false, List, [], ◌∷◌, ◌++◌, length, take, drop, arith, refl}
+use Rattle.std.proofs.Common.{if◌then◌else◌, ap, sym, ◌∙◌, append_assoc, length-append, length-drop, replicate, count_by, ◌==◌}
 use Rattle.std.proofs.lemmas.Bool.{both_ways}
 use Rattle.std.proofs.lemmas.Grind.{common_steps}
 use Rattle.std.proofs.lemmas.List.{get_or-drop, get_or-take, take-append-drop, drop_at, take_at, length-take, drop-drop}
@@ -20,7 +21,8 @@ pads_le t =
     let l = length-drop (length t - 2) t in
     (omega arith, omega arith)
 
-pub unpadded_split : (padded : Bool) (src : List ℕ) (at : ℕ) → at ≤ length src → (padded ≡ true → 2 ≤ length (drop at src)) → unpadded_len padded src ≡ at + unpadded_len padded (drop at src)
+pub unpadded_split : (padded : Bool) (src : List ℕ) (at : ℕ) → at ≤ length src → (padded ≡ true → 2 ≤ length (drop at src))
+    → unpadded_len padded src ≡ at + unpadded_len padded (drop at src)
 unpadded_split false src at le two = let e = length-drop at src in omega arith
 unpadded_split true src at le two =
     let t = two refl in
@@ -29,11 +31,13 @@ unpadded_split true src at le two =
     let pads = pads_le (drop at src) in
     rw (q, ← drop-drop (length (drop at src) - 2) at src) (omega arith)
 
-pub encoding_of-append : (end : End) (table x y : List ℕ) (padded : Bool) → length x % 3 ≡ 0 → encoding_of end table padded (x ++ y) ≡ characters end table x ++ encoding_of end table padded y
+pub encoding_of-append : (end : End) (table x y : List ℕ) (padded : Bool) → length x % 3 ≡ 0
+    → encoding_of end table padded (x ++ y) ≡ characters end table x ++ encoding_of end table padded y
 encoding_of-append end table x y padded whole =
     let e = length-append x y in
     let p : padding_len (length (x ++ y)) ≡ padding_len (length y) = omega arith in
-    rw (p, characters-append end table x y whole) (append_assoc (characters end table x) (characters end table y) (if padded then replicate (padding_len (length y)) 61 else []))
+    rw (p, characters-append end table x y whole) (append_assoc (characters end table x) (characters end table y)
+    (if padded then replicate (padding_len (length y)) 61 else []))
 
 pub length-bytes_of_blocks : (end : End) (table t : List ℕ) → length t % 4 ≡ 0 → length (bytes_of_blocks end table t) ≡ 3 * (length t / 4)
 unfolding bytes_of_blocks
@@ -84,7 +88,8 @@ pub record Halves (end : End) (table : List ℕ) (padded : Bool) (src b : List �
   pub front_bytes : IsBytes (take (3 * q) b)
   pub rest_bytes : IsBytes (drop (3 * q) b)
 
-pub halves : (end : End) (table : List ℕ) (padded : Bool) (src b : List ℕ) (q : ℕ) → 4 * q < length src → IsBytes b → src ≡ encoding_of end table padded b → Halves end table padded src b q
+pub halves : (end : End) (table : List ℕ) (padded : Bool) (src b : List ℕ) (q : ℕ) → 4 * q < length src → IsBytes b → src ≡ encoding_of end table padded b
+    → Halves end table padded src b q
 halves end table padded src b q more bytes is =
     let most = length_enc end table b padded in
     let same_length = ap length is in
@@ -103,13 +108,15 @@ halves end table padded src b q more bytes is =
     }
 
 -- no bytes, since the last block has none
-pub none_by_rest : (end : End) (table : List ℕ) (padded : Bool) (src : List ℕ) (q : ℕ) → 4 * q < length src → IsNoEncoding end table padded (drop (4 * q) src) → IsNoEncoding end table padded src
+pub none_by_rest : (end : End) (table : List ℕ) (padded : Bool) (src : List ℕ) (q : ℕ) → 4 * q < length src
+    → IsNoEncoding end table padded (drop (4 * q) src) → IsNoEncoding end table padded src
 none_by_rest end table padded src q more none b bytes is =
     let h = halves end table padded src b q more bytes is in
     none (drop (3 * q) b) h.rest_bytes h.rest
 
 -- no bytes, since a character of the front is not in the table
-pub none_by_front : (end : End) (table : List ℕ) (padded : Bool) (src : List ℕ) (q : ℕ) → Facts table → 4 * q < length src → all_in table (take (4 * q) src) ≡ false → IsNoEncoding end table padded src
+pub none_by_front : (end : End) (table : List ℕ) (padded : Bool) (src : List ℕ) (q : ℕ) → Facts table → 4 * q < length src
+    → all_in table (take (4 * q) src) ≡ false → IsNoEncoding end table padded src
 none_by_front end table padded src q f more bad b bytes is =
     let h = halves end table padded src b q more bytes is in
     both_ways _ bad (ap (all_in table) h.front ∙ (bytes_of_blocks_characters end table (take (3 * q) b) f h.front_bytes h.whole).0)

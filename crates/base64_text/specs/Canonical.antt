@@ -1,5 +1,6 @@
 -- Canonical texts (RFC 4648 section 3.5), and why a whole text is refused.
-use Rattle.std.specs.Prelude.{◌≡◌, ◌≢◌, ℕ, ◌+◌, ◌-◌, ◌*◌, ◌/◌, ◌%◌, ◌<◌, ◌≤◌, ◌^◌, Bool, true, not, ◌==◌, nat_le, ◌&&◌, ◌||◌, ◌⊎◌, if◌then◌else◌, List, [], ◌∷◌, ◌++◌, length, take, drop, replicate, count_by, All}
+use Rattle.std.specs.Prelude.{◌≡◌, ◌≢◌, ℕ, ◌+◌, ◌-◌, ◌*◌, ◌/◌, ◌%◌, ◌<◌, ◌≤◌, ◌^◌, Bool, true, not, ◌==◌, nat_le, ◌&&◌, ◌||◌, ◌⊎◌, if◌then◌else◌, List, []}
+use Rattle.std.specs.Prelude.{◌∷◌, ◌++◌, length, take, drop, replicate, count_by, All}
 use Rattle.base64_alphabet.specs.Group.{End}
 use Rattle.base64_alphabet.specs.Table.{all_in}
 use Rattle.base64_alphabet.specs.Encoding.{encoding_of, bytes_of_blocks}
@@ -36,7 +37,8 @@ is_clean table padded t = all_in table (take (unpadded_len padded t) t) && all_p
 -- the bytes that a clean text's characters stand for, whatever bits follow the last byte: a short last block
 -- is filled with `A`
 abbrev pub loose_bytes : End → List ℕ → Bool → List ℕ → List ℕ
-loose_bytes end table padded t = take (decoded_len (unpadded_len padded t)) (bytes_of_blocks end table (take (unpadded_len padded t) t ++ replicate (3 - (unpadded_len padded t - 1) % 4) 65))
+loose_bytes end table padded t = take (decoded_len (unpadded_len padded t))
+    (bytes_of_blocks end table (take (unpadded_len padded t) t ++ replicate (3 - (unpadded_len padded t - 1) % 4) 65))
 
 -- a padded text has whole blocks of four characters
 abbrev pub HasWholeBlocks : Bool → List ℕ → Type 0

@@ -19,4 +19,5 @@ loose_count u = 4 * (u / 4) + 4
 -- how many conversions the decoding of a text takes, where its length tests pass: a text that is clean and not
 -- empty has its last block encoded again
 abbrev pub decode_count : List ℕ → Bool → List ℕ → ℕ
-decode_count table padded t = loose_count (unpadded_len padded t) + (if is_clean table padded t && not (length t == 0) then (if not padded && (unpadded_len padded t % 4 == 0) then 8 else 4) else 0)
+decode_count table padded t = loose_count (unpadded_len padded t)
+    + (if is_clean table padded t && not (length t == 0) then (if not padded && (unpadded_len padded t % 4 == 0) then 8 else 4) else 0)

@@ -1,7 +1,8 @@
 //! Decoding of whole texts.
 #![tactic(auto)]
 
-ghost use Rattle.std.specs.Prelude.{◌≡◌, ℕ, ◌<◌, ◌≤◌, ◌+◌, ◌-◌, ◌*◌, ◌/◌, ◌%◌, ◌++◌, ◌↔◌, List, length, take, drop, IfOk, IfErr, IsOkAnd, true, false, ◌≢◌, if◌then◌else◌};
+ghost use Rattle.std.specs.Prelude.{◌≡◌, ℕ, ◌<◌, ◌≤◌, ◌+◌, ◌-◌, ◌*◌, ◌/◌, ◌%◌, ◌++◌, ◌↔◌, List, length, take, drop, IfOk, IfErr, IsOkAnd, true, false, ◌≢◌};
+ghost use Rattle.std.specs.Prelude.{if◌then◌else◌};
 ghost use Rattle.base64_alphabet.specs.Encoding.{encoding_of, bytes_of_blocks};
 ghost use Rattle.base64_alphabet.specs.Table.{all_in};
 ghost use Rattle.base64_text.specs.Canonical.{IsBytes, IsDecodeError, IsDecodeVecError, HasWholeBlocks, decoded_len, has_lengths, unpadded_len};

@@ -1,7 +1,8 @@
 //! Encoding of bytes.
 #![tactic(auto)]
 
-ghost use Rattle.std.specs.Prelude.{◌≡◌, ℕ, ◌≤◌, ◌<◌, ◌+◌, ◌*◌, ◌/◌, ◌%◌, ◌^◌, ◌↔◌, length, take, drop, IsSome, IfSome, IfNone, is_some, if◌then◌else◌, IfOk, IfErr, Err, IsAscii, string_bytes};
+ghost use Rattle.std.specs.Prelude.{◌≡◌, ℕ, ◌≤◌, ◌<◌, ◌+◌, ◌*◌, ◌/◌, ◌%◌, ◌^◌, ◌↔◌, length, take, drop, IsSome, IfSome, IfNone, is_some, if◌then◌else◌, IfOk};
+ghost use Rattle.std.specs.Prelude.{IfErr, Err, IsAscii, string_bytes};
 ghost use Rattle.base64_alphabet.specs.Encoding.{encoding_of};
 ghost use Rattle.base64_text.specs.Canonical.{IsEncodeStringError};
 ghost use Rattle.base64_text.specs.Counts.{encoded_len, encode_count};

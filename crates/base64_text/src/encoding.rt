@@ -1,9 +1,11 @@
 //! Whole texts.
 #![tactic(auto)]
 
-ghost use Rattle.std.specs.Prelude.{◌≡◌, ℕ, ◌<◌, ◌≤◌, ◌+◌, ◌*◌, ◌^◌, ◌↔◌, ◌⊎◌, List, length, take, drop, string_bytes, nat_lt, true, false, is_ok, Err, IsOk, IsErr, IfOk, IfErr, OnErr, IsOkAnd, if◌then◌else◌};
+ghost use Rattle.std.specs.Prelude.{◌≡◌, ℕ, ◌<◌, ◌≤◌, ◌+◌, ◌*◌, ◌^◌, ◌↔◌, ◌⊎◌, List, length, take, drop, string_bytes, nat_lt, true, false, is_ok, Err, IsOk};
+ghost use Rattle.std.specs.Prelude.{IsErr, IfOk, IfErr, OnErr, IsOkAnd, if◌then◌else◌};
 ghost use Rattle.base64_alphabet.specs.Encoding.{encoding_of};
-ghost use Rattle.base64_text.specs.Canonical.{IsBytes, IsNoEncoding, IsDecodeError, IsDecodeVecError, IsEncodeStringError, decoded_len, is_clean, loose_bytes, unpadded_len, has_lengths, has_whole_blocks};
+ghost use Rattle.base64_text.specs.Canonical.{IsBytes, IsNoEncoding, IsDecodeError, IsDecodeVecError, IsEncodeStringError, decoded_len, is_clean, loose_bytes};
+ghost use Rattle.base64_text.specs.Canonical.{unpadded_len, has_lengths, has_whole_blocks};
 ghost use Rattle.base64_text.specs.Counts.{decode_count, loose_count, encode_count, encoded_len as len_of};
 
 use crate::decode_text::{decode_counting, decode_into, decode_to_vec};

@@ -1,5 +1,6 @@
 -- How a decoder begins.
-use Rattle.std.proofs.Common.{◌≡◌, ℕ, zero, suc, ◌+◌, ◌-◌, ◌*◌, ◌/◌, ◌<◌, ◌≤◌, Bool, true, false, List, [], ◌++◌, length, take, drop, arith, refl, ap, sym, ◌∙◌, map, Some, Result, Ok, Err, IfOk, IfErr, IsOkAnd, subst}
+use Rattle.std.proofs.Common.{◌≡◌, ℕ, zero, suc, ◌+◌, ◌-◌, ◌*◌, ◌/◌, ◌<◌, ◌≤◌, Bool, true, false, List, [], ◌++◌, length, take, drop, arith, refl, ap, sym}
+use Rattle.std.proofs.Common.{◌∙◌, map, Some, Result, Ok, Err, IfOk, IfErr, IsOkAnd, subst}
 use Rattle.std.proofs.lemmas.Bool.{both_ways, le-ltb}
 use Rattle.base64_alphabet.specs.Group.{End}
 use Rattle.base64_alphabet.specs.Encoding.{encoding_of}
@@ -25,7 +26,8 @@ pub record Joined (w count : ℕ) (text line rest : List ℕ) : Type 0 where
   pub last : (n : ℕ) → n ≤ 4 → n ≤ count + length rest → (n ≤ length line + length rest)
       × (drop (length line + length rest - n) (line ++ rest) ≡ drop (count + length rest - n) (joined w text))
 
-pub cut_joined : (w count : ℕ) (text line rest : List ℕ) → 4 ≤ w → 0 < length text → IsCut w count text line rest → length rest ≤ w → Joined w count text line rest
+pub cut_joined : (w count : ℕ) (text line rest : List ℕ) → 4 ≤ w → 0 < length text → IsCut w count text line rest → length rest ≤ w
+    → Joined w count text line rest
 cut_joined w count text line rest wide some c few =
     let a = all_cut w count text line rest wide c few in
     let ends : has_endings w text ≡ true = has_endings-walk w text (omega arith) ∙ a.ends in
@@ -44,7 +46,8 @@ cut_joined w count text line rest wide some c few =
 
 -- the last block
 pub block_at : (w count n : ℕ) (text line rest : List ℕ) → Joined w count text line rest → n ≡ count + length rest - 4 * ((count + length rest - 1) / 4)
-    → (n ≤ 4) × (1 ≤ n) × (n ≤ length line + length rest) × (drop (length line + length rest - n) (line ++ rest) ≡ drop (last_at (length (joined w text))) (joined w text))
+    → (n ≤ 4) × (1 ≤ n) × (n ≤ length line + length rest) × (drop (length line + length rest - n) (line ++ rest)
+    ≡ drop (last_at (length (joined w text))) (joined w text))
 block_at w count n text line rest j is =
     let some = j.some in
     let l = j.last n (omega arith) (omega arith) in
@@ -52,7 +55,8 @@ block_at w count n text line rest j is =
     (omega arith, omega arith, l.0, l.1 ∙ ap (λ k. drop k (joined w text)) e ∙ ap (λ k. drop (last_at k) (joined w text)) (sym j.len))
 
 -- what is left at first are the items of the text
-pub first_items : (end : End) (table : List ℕ) (padded : Bool) (t chars few last : List ℕ) (b : ℕ) → Facts table → 0 < length t → t ≡ chars → b ≡ (length t - 1) / 4 → few ≡ []
+pub first_items : (end : End) (table : List ℕ) (padded : Bool) (t chars few last : List ℕ) (b : ℕ) → Facts table → 0 < length t → t ≡ chars
+    → b ≡ (length t - 1) / 4 → few ≡ []
     → IsBytes last → drop (last_at (length t)) t ≡ encoding_of end table padded last
     → map Some few ++ (block_items end table (take (4 * b) chars) ++ map Some last) ≡ items end table padded t
 first_items end table padded t chars few last b f some walk blocks none bytes is =
@@ -64,7 +68,8 @@ first_items end table padded t chars few last b f some walk blocks none bytes is
 pub no_endings : (w : ℕ) (text : List ℕ) → 0 < w → has_endings_from w w false text ≡ false → has_endings w text ≡ true → ⊥
 no_endings w text low bad good = both_ways (has_endings w text) (has_endings-walk w text low ∙ bad) good
 
-pub no_end : (end : End) (table : List ℕ) (padded : Bool) (t block : List ℕ) → block ≡ drop (last_at (length t)) t → IsNoEncoding end table padded block → HasCanonicalEnd end table padded t → ⊥
+pub no_end : (end : End) (table : List ℕ) (padded : Bool) (t block : List ℕ) → block ≡ drop (last_at (length t)) t → IsNoEncoding end table padded block
+    → HasCanonicalEnd end table padded t → ⊥
 no_end end table padded t block at none (b, bytes, is) = none b bytes (at ∙ is)
 
 -- a text that is no longer than the width is one line
@@ -93,7 +98,8 @@ pub err_then : {X : Type 0} (P R : Error → Type 0) (r : Result X Error) → If
 err_then P R (Ok x) p f = p
 err_then P R (Err e) p f = f e p
 
-pub ok_when : {X : Type 0} (P R : X → Type 0) (Q : Error → Type 0) (r : Result X Error) → IfOk r P → IfErr r Q → ((x : X) → P x → R x) → ((e : Error) → Q e → ⊥) → IsOkAnd r R
+pub ok_when : {X : Type 0} (P R : X → Type 0) (Q : Error → Type 0) (r : Result X Error) → IfOk r P → IfErr r Q → ((x : X) → P x → R x)
+    → ((e : Error) → Q e → ⊥) → IsOkAnd r R
 ok_when P R Q (Ok x) p q f bad = f x p
 ok_when P R Q (Err e) p q f bad = bad e q
 

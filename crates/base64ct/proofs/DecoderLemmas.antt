@@ -1,5 +1,6 @@
 -- What a decoder has left, and the bytes of its text.
-use Rattle.std.proofs.Common.{◌≡◌, ℕ, zero, suc, ◌+◌, ◌-◌, ◌*◌, ◌/◌, ◌%◌, ◌<◌, ◌≤◌, Bool, true, false, ◌&&◌, ◌==◌, List, [], ◌∷◌, ◌++◌, length, slice_index, take, drop, arith, refl, ap, sym, ◌∙◌, map, append-nil, Option, Some, None, Contains, inl, inr, length-append, length-drop}
+use Rattle.std.proofs.Common.{◌≡◌, ℕ, zero, suc, ◌+◌, ◌-◌, ◌*◌, ◌/◌, ◌%◌, ◌<◌, ◌≤◌, Bool, true, false, ◌&&◌, ◌==◌, List, [], ◌∷◌, ◌++◌, length, slice_index}
+use Rattle.std.proofs.Common.{take, drop, arith, refl, ap, sym, ◌∙◌, map, append-nil, Option, Some, None, Contains, inl, inr, length-append, length-drop}
 use Rattle.std.proofs.lemmas.Bool.{cases_Bool, both_ways, eqb-true, and_parts}
 use Rattle.std.proofs.lemmas.List.{length-take-le, take_all, take_at}
 use Rattle.std.proofs.lemmas.List.Elements.{Contains-append_left, Contains-append_right, All-same}
@@ -46,7 +47,8 @@ length-block_items end table (p ∷ q ∷ r ∷ []) whole = absurd (omega arith)
 length-block_items end table (p ∷ q ∷ r ∷ s ∷ t) whole =
     let e = length-block_items end table t (omega arith) in
     elim (cases_Bool (all_in table (p ∷ q ∷ r ∷ s ∷ []))) [
-      | inl g ↦ rw g (let l = length-append (map {A = ℕ} {B = Option ℕ} Some (bytes_of end table p q r s)) (block_items end table t) in let m = three_map end table p q r s in omega arith)
+      | inl g ↦ rw g (let l = length-append (map {A = ℕ} {B = Option ℕ} Some (bytes_of end table p q r s)) (block_items end table t) in let m =
+          three_map end table p q r s in omega arith)
       | inr b ↦ rw b (omega arith)
     ]
 
@@ -62,7 +64,8 @@ all_four : (table : List ℕ) (p q r s : ℕ) (t : List ℕ) → all_in table (p
 all_four table p q r s t = four_and (is_in table p) (is_in table q) (is_in table r) (is_in table s) (all_in table t)
 
 -- blocks in the table give their bytes
-pub block_items-good : (end : End) (table t : List ℕ) → length t % 4 ≡ 0 → all_in table t ≡ true → block_items end table t ≡ map Some (bytes_of_blocks end table t)
+pub block_items-good : (end : End) (table t : List ℕ) → length t % 4 ≡ 0 → all_in table t ≡ true
+    → block_items end table t ≡ map Some (bytes_of_blocks end table t)
 unfolding block_items bytes_of_blocks
 block_items-good end table [] whole h = refl
 block_items-good end table (p ∷ []) whole h = absurd (omega arith)
@@ -82,7 +85,8 @@ block_items-bad end table (p ∷ q ∷ []) whole h = absurd (omega arith)
 block_items-bad end table (p ∷ q ∷ r ∷ []) whole h = absurd (omega arith)
 block_items-bad end table (p ∷ q ∷ r ∷ s ∷ t) whole h = elim (cases_Bool (all_in table (p ∷ q ∷ r ∷ s ∷ []))) [
   | inl g ↦ rw g (Contains-append_right (map Some (bytes_of end table p q r s)) (block_items end table t) None
-      (block_items-bad end table t (omega arith) (let e : (all_in table (p ∷ q ∷ r ∷ s ∷ []) && all_in table t) ≡ false = rw (all_four table p q r s t) at h in rw g at e)))
+      (block_items-bad end table t (omega arith) (let e : (all_in table (p ∷ q ∷ r ∷ s ∷ []) && all_in table t) ≡ false =
+      rw (all_four table p q r s t) at h in rw g at e)))
   | inr b ↦ rw b (0, omega arith, refl)
 ]
 
@@ -97,7 +101,8 @@ pub canonical_loose : (end : End) (table : List ℕ) (padded : Bool) (t b : List
     → drop (last_at (length t)) t ≡ encoding_of end table padded b → loose_bytes end table padded (drop (last_at (length t)) t) ≡ b
 canonical_loose end table padded t b f some bytes is =
     let e = length-drop (last_at (length t)) t in
-    last_loose end table padded (drop (last_at (length t)) t) b (is_last end table padded (drop (last_at (length t)) t) b f bytes (omega arith) (omega arith) is)
+    last_loose end table padded (drop (last_at (length t)) t) b
+    (is_last end table padded (drop (last_at (length t)) t) b f bytes (omega arith) (omega arith) is)
 
 -- what the items of a text with a canonical end tell
 pub items_encoding : (end : End) (table : List ℕ) (padded : Bool) (t b : List ℕ) → Facts table → 0 < length t → HasCanonicalEnd end table padded t
@@ -115,7 +120,8 @@ items_encoding end table padded t b f some (last, bytes, is) h =
           ∙ sym (ap (λ xs. block_items end table (take (last_at (length t)) t) ++ map Some xs) loose) ∙ h in
           whole_text end table padded t last ((length t - 1) / 4) f le g is
           ∙ ap (encoding_of end table padded) (map_some_back _ _ i))
-      | inr bad ↦ absurd (none_bad b (rw h at (Contains-append_left (block_items end table (take (last_at (length t)) t)) (map Some (loose_bytes end table padded (drop (last_at (length t)) t))) None
+      | inr bad ↦ absurd (none_bad b (rw h at (Contains-append_left (block_items end table (take (last_at (length t)) t))
+          (map Some (loose_bytes end table padded (drop (last_at (length t)) t))) None
           (block_items-bad end table (take (last_at (length t)) t) whole bad))))
     ]
 
@@ -159,7 +165,8 @@ pub record OfBytes (end : End) (table : List ℕ) (padded : Bool) (w : ℕ) (tex
   pub accepted : IsWrapped end table padded w text
   pub items : items end table padded (joined w text) ≡ map Some b
 
-pub of_bytes : (end : End) (table : List ℕ) (padded : Bool) (w : ℕ) (text b : List ℕ) → Facts table → 0 < w → IsWrappedText end table padded w text b → OfBytes end table padded w text b
+pub of_bytes : (end : End) (table : List ℕ) (padded : Bool) (w : ℕ) (text b : List ℕ) → Facts table → 0 < w → IsWrappedText end table padded w text b
+    → OfBytes end table padded w text b
 of_bytes end table padded w text b f low (t, lines, is, bytes) =
     let a = lines_are w text t low lines in
     let is' : joined w text ≡ encoding_of end table padded b = a.is_joined ∙ is in
@@ -172,7 +179,8 @@ of_bytes end table padded w text b f low (t, lines, is, bytes) =
       items = encoding_items end table padded (joined w text) b f bytes some is';
     }
 
-pub bytes_of_lines : (end : End) (table : List ℕ) (padded : Bool) (w : ℕ) (text b : List ℕ) → Facts table → 0 < w → 0 < length text → IsWrapped end table padded w text
+pub bytes_of_lines : (end : End) (table : List ℕ) (padded : Bool) (w : ℕ) (text b : List ℕ) → Facts table → 0 < w → 0 < length text
+    → IsWrapped end table padded w text
     → IsBytes b → items end table padded (joined w text) ≡ map Some b → IsWrappedText end table padded w text b
 bytes_of_lines end table padded w text b f low some (last, ends, canonical) bytes h =
     let long = some_joined w text low some ends in

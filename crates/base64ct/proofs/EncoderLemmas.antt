@@ -1,5 +1,6 @@
 -- What an encoder writes.
-use Rattle.std.proofs.Common.{◌≡◌, ℕ, ◌+◌, ◌-◌, ◌*◌, ◌/◌, ◌%◌, ◌<◌, ◌≤◌, Bool, true, false, List, [], ◌∷◌, ◌++◌, length, take, drop, arith, refl, ap, sym, ◌∙◌, append_assoc, append-nil, length-append, length-drop}
+use Rattle.std.proofs.Common.{◌≡◌, ℕ, ◌+◌, ◌-◌, ◌*◌, ◌/◌, ◌%◌, ◌<◌, ◌≤◌, Bool, true, false, List, [], ◌∷◌, ◌++◌, length, take, drop, arith, refl, ap, sym, ◌∙◌}
+use Rattle.std.proofs.Common.{append_assoc, append-nil, length-append, length-drop}
 use Rattle.std.proofs.lemmas.List.{drop_all, length-take-le, take-append-drop, take_all, take_at}
 use Rattle.std.proofs.Math.Seq.{drop-append-add, take-append-add}
 use borrow.Rule.Slice.PartMut.{post_of, put_mid}
@@ -38,7 +39,8 @@ record Cut (p : ℕ) (block input head rest : List ℕ) : Type 0 where
   whole : take p block ++ input ≡ (take p block ++ head) ++ rest
   full : put_mid p (3 - p) block head ≡ take p block ++ head
 
-cut : (p : ℕ) (block input head rest : List ℕ) → p < 3 → length block ≡ 3 → 3 - p ≤ length input → head ≡ take (3 - p) input → rest ≡ drop (3 - p) input → Cut p block input head rest
+cut : (p : ℕ) (block input head rest : List ℕ) → p < 3 → length block ≡ 3 → 3 - p ≤ length input → head ≡ take (3 - p) input → rest ≡ drop (3 - p) input
+    → Cut p block input head rest
 cut p block input head rest few three long is_head is_rest =
     let k : length (take p block) ≡ p = length-take-le p block (omega arith) in
     let h : length head ≡ 3 - p = ap length is_head ∙ length-take-le (3 - p) input long in
@@ -48,19 +50,24 @@ cut p block input head rest few three long is_head is_rest =
       full = ap (λ xs. take p block ++ (head ++ xs)) (post_none p (3 - p) block (omega arith)) ∙ ap (λ xs. take p block ++ xs) (append-nil head);
     }
 
-pub groups_written : (end : End) (table : List ℕ) (padded : Bool) (p n m : ℕ) (block input head rest groups copied out first second : List ℕ) → p < 3 → length block ≡ 3 → 3 - p ≤ length input
-    → length out ≡ 4 * ((p + length input) / 3) → head ≡ take (3 - p) input → rest ≡ drop (3 - p) input → copied ≡ head → groups ≡ take (3 * (length rest / 3)) rest
-    → n ≡ encoded_len padded (length (put_mid p (3 - p) block copied)) → take n first ≡ encoding_of end table padded (put_mid p (3 - p) block copied) → length first ≡ 4
+pub groups_written : (end : End) (table : List ℕ) (padded : Bool) (p n m : ℕ) (block input head rest groups copied out first second : List ℕ) → p < 3
+    → length block ≡ 3 → 3 - p ≤ length input
+    → length out ≡ 4 * ((p + length input) / 3) → head ≡ take (3 - p) input → rest ≡ drop (3 - p) input → copied ≡ head
+    → groups ≡ take (3 * (length rest / 3)) rest
+    → n ≡ encoded_len padded (length (put_mid p (3 - p) block copied)) → take n first ≡ encoding_of end table padded (put_mid p (3 - p) block copied)
+    → length first ≡ 4
     → m ≡ encoded_len padded (length groups) → take m second ≡ encoding_of end table padded groups → length second ≡ length out - 4
     → put_mid 4 (length (first ++ drop 4 out) - 4) (first ++ drop 4 out) second ≡ characters end table (whole_groups (take p block ++ input))
-groups_written end table padded p n m block input head rest groups copied out first second few three long room is_head is_rest is_copied is_groups n_is first_text first_len m_is second_text second_len =
+groups_written end table padded p n m block input head rest groups copied out first second few three long room is_head is_rest is_copied is_groups n_is
+    first_text first_len m_is second_text second_len =
     let c = cut p block input head rest few three long is_head is_rest in
     let size = c.size in
     let bytes : List ℕ = take p block ++ head in
     let done : put_mid p (3 - p) block copied ≡ bytes = ap (put_mid p (3 - p) block) is_copied ∙ c.full in
     let r : length rest ≡ length input - (3 - p) = ap length is_rest ∙ length-drop (3 - p) input in
     let g : length groups ≡ 3 * (length rest / 3) = ap length is_groups ∙ length-take-le (3 * (length rest / 3)) rest (omega arith) in
-    let one : first ≡ characters end table bytes = filled end table padded bytes first n (omega arith) (rw done at n_is) (omega arith) (rw done at first_text) in
+    let one : first ≡ characters end table bytes = filled end table padded bytes first n (omega arith) (rw done at n_is) (omega arith)
+    (rw done at first_text) in
     let two : second ≡ characters end table groups = filled end table padded groups second m (omega arith) m_is (omega arith) second_text in
     let l = length-append first (drop 4 out) in
     let total = ap length c.whole in
@@ -69,7 +76,8 @@ groups_written end table padded p n m block input head rest groups copied out fi
     let k : length (take p block) ≡ p = length-take-le p block (omega arith) in
     let q : 3 * (length (take p block ++ input) / 3) ≡ length bytes + 3 * (length rest / 3) = omega arith in
     let text : whole_groups (take p block ++ input) ≡ bytes ++ groups
-    = ap (λ i. take i (take p block ++ input)) q ∙ ap (take (length bytes + 3 * (length rest / 3))) c.whole ∙ take-append-add bytes rest (3 * (length rest / 3)) ∙ ap (λ xs. bytes ++ xs) (sym is_groups) in
+    = ap (λ i. take i (take p block ++ input)) q ∙ ap (take (length bytes + 3 * (length rest / 3))) c.whole
+    ∙ take-append-add bytes rest (3 * (length rest / 3)) ∙ ap (λ xs. bytes ++ xs) (sym is_groups) in
     ap (λ xs. take 4 (first ++ drop 4 out) ++ (second ++ xs)) (post_none 4 (length (first ++ drop 4 out) - 4) (first ++ drop 4 out) (omega arith))
     ∙ ap (λ xs. take 4 (first ++ drop 4 out) ++ xs) (append-nil second) ∙ ap (λ xs. xs ++ second) (take_at first (drop 4 out) 4 first_len)
     ∙ rw (one, two) (sym (characters-append end table bytes groups (omega arith))) ∙ ap (characters end table) (sym text)
@@ -85,7 +93,8 @@ groups_kept p block input head rest last copied tail few three long is_head is_r
     let d : length copied ≡ length rest - 3 * (length rest / 3) = ap length is_copied ∙ ap length is_last ∙ length-drop (3 * (length rest / 3)) rest in
     let q : 3 * ((p + length input) / 3) ≡ length bytes + 3 * (length rest / 3) = omega arith in
     take_at copied tail ((p + length input) % 3) (omega arith) ∙ is_copied ∙ is_last
-    ∙ sym (ap (λ i. drop i (take p block ++ input)) q ∙ ap (drop (length bytes + 3 * (length rest / 3))) c.whole ∙ drop-append-add bytes rest (3 * (length rest / 3)))
+    ∙ sym (ap (λ i. drop i (take p block ++ input)) q ∙ ap (drop (length bytes + 3 * (length rest / 3))) c.whole
+    ∙ drop-append-add bytes rest (3 * (length rest / 3)))
 
 -- fewer than three bytes are no group
 pub no_group : (end : End) (table b out : List ℕ) → length b < 3 → length out ≡ 0 → out ≡ characters end table (whole_groups b)

@@ -1,5 +1,6 @@
 -- What a decoder has left, piece by piece.
-use Rattle.std.proofs.Common.{◌≡◌, ℕ, zero, suc, ◌+◌, ◌-◌, ◌*◌, ◌%◌, ◌<◌, ◌≤◌, true, false, List, [], ◌∷◌, ◌++◌, length, take, drop, arith, refl, ap, sym, ◌∙◌, map, append-nil, append_assoc, Option, Some, None, if◌then◌else◌, Contains, IfNone, length-append, length-drop}
+use Rattle.std.proofs.Common.{◌≡◌, ℕ, zero, suc, ◌+◌, ◌-◌, ◌*◌, ◌%◌, ◌<◌, ◌≤◌, true, false, List, [], ◌∷◌, ◌++◌, length, take, drop, arith, refl, ap, sym, ◌∙◌}
+use Rattle.std.proofs.Common.{map, append-nil, append_assoc, Option, Some, None, if◌then◌else◌, Contains, IfNone, length-append, length-drop}
 use Rattle.std.proofs.lemmas.List.{take-append-drop, length-take-le, take_at, drop_all, drop_at}
 use Rattle.std.proofs.lemmas.List.Elements.{Contains-append_left, Contains-append_right}
 use borrow.Rule.Slice.PartMut.{put_mid}
@@ -26,7 +27,8 @@ pub bad_within : (xs ys : List (Option ℕ)) (n : ℕ) → length xs ≤ n → C
 bad_within xs ys n le bad = rw (take_past xs ys n le) (Contains-append_left xs (take (n - length xs) ys) None bad)
 
 -- a bad item behind good ones
-pub bad_behind : (xs ys : List (Option ℕ)) (a : List ℕ) (m n : ℕ) → xs ≡ map Some a ++ ys → n ≡ length a + m → Contains (take m ys) None → Contains (take n xs) None
+pub bad_behind : (xs ys : List (Option ℕ)) (a : List ℕ) (m n : ℕ) → xs ≡ map Some a ++ ys → n ≡ length a + m → Contains (take m ys) None
+    → Contains (take n xs) None
 bad_behind xs ys a m n is count bad =
     let len = length-map_some a in
     let e : n - length (map {A = ℕ} {B = Option ℕ} Some a) ≡ m = omega arith in
@@ -35,10 +37,12 @@ bad_behind xs ys a m n is count bad =
 -- two pieces are one
 pub two_pieces : (xs ys zs : List (Option ℕ)) (a b c : List ℕ) → xs ≡ map Some a ++ ys → ys ≡ map Some b ++ zs → c ≡ a ++ b → xs ≡ map Some c ++ zs
 two_pieces xs ys zs a b c p q is =
-    p ∙ ap (λ us. map Some a ++ us) q ∙ sym (append_assoc (map Some a) (map Some b) zs) ∙ ap (λ us. us ++ zs) (map-append a b) ∙ ap (λ us. map Some us ++ zs) (sym is)
+    p ∙ ap (λ us. map Some a ++ us) q ∙ sym (append_assoc (map Some a) (map Some b) zs) ∙ ap (λ us. us ++ zs) (map-append a b)
+    ∙ ap (λ us. map Some us ++ zs) (sym is)
 
 -- the first of a few bytes are given
-pub given_items : (few kept : List ℕ) (rest : List (Option ℕ)) (n : ℕ) → kept ≡ drop n few → map Some few ++ rest ≡ map Some (take n few) ++ (map Some kept ++ rest)
+pub given_items : (few kept : List ℕ) (rest : List (Option ℕ)) (n : ℕ) → kept ≡ drop n few
+    → map Some few ++ rest ≡ map Some (take n few) ++ (map Some kept ++ rest)
 given_items few kept rest n is =
     ap (λ us. map Some us ++ rest) (sym (take-append-drop n few)) ∙ ap (λ us. us ++ rest) (sym (map-append (take n few) (drop n few)))
     ∙ append_assoc (map Some (take n few)) (map Some (drop n few)) rest ∙ ap (λ us. map Some (take n few) ++ (map Some us ++ rest)) (sym is)
@@ -86,8 +90,10 @@ pub blocks_taken : (end : End) (table chars behind new : List ℕ) (last : List 
     → block_items end table (take (4 * b) chars) ++ last ≡ map Some new ++ (block_items end table (take (4 * (b - k)) behind) ++ last)
 blocks_taken end table chars behind new last b k le fits is good bytes =
     let len : length (take (4 * k) chars) ≡ 4 * k = length-take-le (4 * k) chars (omega arith) in
-    let items : block_items end table (take (4 * k) chars) ≡ map Some new = block_items-good end table (take (4 * k) chars) (omega arith) good ∙ ap (map Some) (sym bytes) in
-    ap (λ us. us ++ last) (split_blocks end table chars b k le fits) ∙ append_assoc (block_items end table (take (4 * k) chars)) (block_items end table (take (4 * (b - k)) (drop (4 * k) chars))) last
+    let items : block_items end table (take (4 * k) chars) ≡ map Some new = block_items-good end table (take (4 * k) chars) (omega arith) good
+    ∙ ap (map Some) (sym bytes) in
+    ap (λ us. us ++ last) (split_blocks end table chars b k le fits)
+    ∙ append_assoc (block_items end table (take (4 * k) chars)) (block_items end table (take (4 * (b - k)) (drop (4 * k) chars))) last
     ∙ ap (λ us. us ++ (block_items end table (take (4 * (b - k)) (drop (4 * k) chars)) ++ last)) items
     ∙ ap (λ us. map Some new ++ (block_items end table (take (4 * (b - k)) us) ++ last)) (sym is)
 
@@ -99,7 +105,8 @@ bad_blocks end table chars last b k n le fits few bad =
     let l = length-block_items end table (take (4 * k) chars) (omega arith) in
     let e : block_items end table (take (4 * b) chars) ++ last
     ≡ block_items end table (take (4 * k) chars) ++ (block_items end table (take (4 * (b - k)) (drop (4 * k) chars)) ++ last)
-    = ap (λ us. us ++ last) (split_blocks end table chars b k le fits) ∙ append_assoc (block_items end table (take (4 * k) chars)) (block_items end table (take (4 * (b - k)) (drop (4 * k) chars))) last in
+    = ap (λ us. us ++ last) (split_blocks end table chars b k le fits)
+    ∙ append_assoc (block_items end table (take (4 * k) chars)) (block_items end table (take (4 * (b - k)) (drop (4 * k) chars))) last in
     rw e (bad_within (block_items end table (take (4 * k) chars)) (block_items end table (take (4 * (b - k)) (drop (4 * k) chars)) ++ last) n (omega arith)
     (block_items-bad end table (take (4 * k) chars) (omega arith) bad))
 
@@ -129,7 +136,8 @@ length-left end table few chars last b fits =
 
 -- nothing but a last block is left
 pub last_few : (end : End) (table chars none empty last : List ℕ) (b : ℕ) → b ≡ 0 → none ≡ [] → empty ≡ []
-    → map Some last ++ (block_items end table (take (4 * b) chars) ++ map Some empty) ≡ map Some none ++ (block_items end table (take (4 * b) chars) ++ map Some last)
+    → map Some last ++ (block_items end table (take (4 * b) chars) ++ map Some empty) ≡ map Some none
+    ++ (block_items end table (take (4 * b) chars) ++ map Some last)
 unfolding block_items
 last_few end table chars none empty last b is nil gone = rw (is, nil, gone) (append-nil (map Some last))
 
@@ -147,7 +155,8 @@ in_front chars text behind n is len = record {
 }
 
 -- the bytes of blocks in front of what stood there
-pub blocks_front : (end : End) (table text chars out rest : List ℕ) (k : ℕ) → length text ≡ 4 * k → out ≡ bytes_of_blocks end table text ++ rest → take (4 * k) chars ≡ text
+pub blocks_front : (end : End) (table text chars out rest : List ℕ) (k : ℕ) → length text ≡ 4 * k → out ≡ bytes_of_blocks end table text ++ rest
+    → take (4 * k) chars ≡ text
     → take (3 * k) out ≡ bytes_of_blocks end table (take (4 * k) chars)
 blocks_front end table text chars out rest k len is same =
     let l = length-bytes_of_blocks end table text (omega arith) in
@@ -161,7 +170,8 @@ pub blocks_more : (end : End) (table chars out new : List ℕ) (done count n : �
 blocks_more end table chars out new done count n fits len room was more =
     let front : length (take (3 * done) out) ≡ 3 * done = length-take-le (3 * done) out room in
     let e : 3 * (done + count) ≡ 3 * done + 3 * count = omega arith in
-    let put : put_mid (3 * done) (n - 3 * done) out new ≡ take (3 * done) out ++ new = ap (λ m. put_mid (3 * done) (m - 3 * done) out new) len ∙ put_back (3 * done) out new in
+    let put : put_mid (3 * done) (n - 3 * done) out new ≡ take (3 * done) out ++ new = ap (λ m. put_mid (3 * done) (m - 3 * done) out new) len
+    ∙ put_back (3 * done) out new in
     ap (take (3 * (done + count))) put ∙ rw e (take_plus (3 * done) (3 * count) (take (3 * done) out ++ new)
     ∙ ap (λ us. us ++ take (3 * count) (drop (3 * done) (take (3 * done) out ++ new))) (take_at (take (3 * done) out) new (3 * done) front)
     ∙ ap (λ us. take (3 * done) out ++ take (3 * count) us) (drop_at (take (3 * done) out) new (3 * done) front)

@@ -1,9 +1,11 @@
 -- Lines, the pieces of a text and the walk over it.
-use Rattle.std.proofs.Common.{◌≡◌, ℕ, zero, suc, ◌-◌, ◌<◌, ◌≤◌, Bool, true, false, ◌&&◌, ◌==◌, List, [], ◌∷◌, ◌++◌, length, take, drop, arith, rules, refl, ap, sym, ◌∙◌, append_assoc, append-nil, length-append, length-drop, inl, inr, nat_lt, subst}
+use Rattle.std.proofs.Common.{◌≡◌, ℕ, zero, suc, ◌-◌, ◌<◌, ◌≤◌, Bool, true, false, ◌&&◌, ◌==◌, List, [], ◌∷◌, ◌++◌, length, take, drop, arith, rules, refl, ap}
+use Rattle.std.proofs.Common.{sym, ◌∙◌, append_assoc, append-nil, length-append, length-drop, inl, inr, nat_lt, subst}
 use Rattle.std.proofs.lemmas.Bool.{cases_Bool, eqb-true, both_ways, ltb-true, ltb-false, and_parts, or_parts}
 use Rattle.std.proofs.lemmas.List.{take-append-drop, length-take-le}
 use Rattle.std.proofs.lemmas.List.Elements.{All-cons, All-head, All-tail}
-use Rattle.base64ct.specs.Lines.{Lines, Last, More, IsEnding, Cr, Lf, Crlf, IsLine, is_line_break, joined, joined_within, has_endings, has_endings_within, ends_in_ending, starts_with_ending, after_ending, after_lf}
+use Rattle.base64ct.specs.Lines.{Lines, Last, More, IsEnding, Cr, Lf, Crlf, IsLine, is_line_break, joined, joined_within, has_endings, has_endings_within}
+use Rattle.base64ct.specs.Lines.{ends_in_ending, starts_with_ending, after_ending, after_lf}
 use Rattle.base64ct.specs.Walk.{joined_from, has_endings_from}
 
 pub pred_suc : (n : ℕ) → suc n - 1 ≡ n
@@ -129,7 +131,8 @@ joined_after w (c ∷ d ∷ text) h = elim (cases_Bool (c == 13)) [
   | inr e ↦ rw (e, rw e at h) refl
 ]
 
-pub ends_after : (w : ℕ) (text : List ℕ) → 0 < length text → has_endings_from w 0 false text ≡ (starts_with_ending text && has_endings_from w w false (after_ending text))
+pub ends_after : (w : ℕ) (text : List ℕ) → 0 < length text → has_endings_from w 0 false text
+    ≡ (starts_with_ending text && has_endings_from w w false (after_ending text))
 ends_after w [] some = absurd (omega arith)
 ends_after w (c ∷ []) some = elim (cases_Bool (c == 13)) [
   | inl e ↦ rw e refl
@@ -166,8 +169,10 @@ same_walk (suc n) w text low le = elim (cases_Bool (nat_lt w (length text))) [
       let short = after_short (drop w text) in
       let r = same_walk n w (after_ending (drop w text)) low (omega arith) in
       let whole = sym (take-append-drop w text) in
-      let walk : joined_from w w false text ≡ take w text ++ joined_from w 0 false (drop w text) = ap (joined_from w w false) whole ∙ walk_full w w (take w text) (drop w text) full in
-      let walk_ends : has_endings_from w w false text ≡ has_endings_from w 0 false (drop w text) = ap (has_endings_from w w false) whole ∙ ends_full w w (take w text) (drop w text) full in
+      let walk : joined_from w w false text ≡ take w text ++ joined_from w 0 false (drop w text) = ap (joined_from w w false) whole
+      ∙ walk_full w w (take w text) (drop w text) full in
+      let walk_ends : has_endings_from w w false text ≡ has_endings_from w 0 false (drop w text) = ap (has_endings_from w w false) whole
+      ∙ ends_full w w (take w text) (drop w text) full in
       let after = ends_after w (drop w text) (omega arith) in
       record {
         ends = rw (e, walk_ends, after, r.ends) refl;
@@ -240,7 +245,8 @@ ending_ends ending Crlf = refl
 
 -- a text that ends in no ending has something behind an ending
 some_behind : (line ending rest : List ℕ) → IsEnding ending → ends_in_ending (line ++ ending ++ rest) ≡ false → 0 < length rest
-some_behind line ending [] is h = absurd (both_ways (ends_in_ending ending) (rw (append-nil (line ++ ending), ends-append line ending (some_ending ending is)) at h) (ending_ends ending is))
+some_behind line ending [] is h = absurd (both_ways (ends_in_ending ending)
+    (rw (append-nil (line ++ ending), ends-append line ending (some_ending ending is)) at h) (ending_ends ending is))
 some_behind line ending (c ∷ rest) is h = omega arith
 
 lines_within : (n w : ℕ) (text : List ℕ) → 0 < w → 0 < length text → length text ≤ n → has_endings_within n w text ≡ true → ends_in_ending text ≡ false

@@ -1,5 +1,6 @@
 -- Reading of a text in lines, and cutting it into lines.
-use Rattle.std.proofs.Common.{◌≡◌, ℕ, zero, suc, ◌+◌, ◌-◌, ◌<◌, ◌≤◌, true, false, ◌&&◌, List, [], ◌∷◌, ◌++◌, length, slice_index, take, drop, arith, refl, ap, sym, ◌∙◌, append_assoc, length-append, length-drop, inl, inr}
+use Rattle.std.proofs.Common.{◌≡◌, ℕ, zero, suc, ◌+◌, ◌-◌, ◌<◌, ◌≤◌, true, false, ◌&&◌, List, [], ◌∷◌, ◌++◌, length, slice_index, take, drop, arith, refl, ap}
+use Rattle.std.proofs.Common.{sym, ◌∙◌, append_assoc, length-append, length-drop, inl, inr}
 use Rattle.std.proofs.lemmas.Bool.{cases_lt, both_ways, and_parts}
 use Rattle.std.proofs.lemmas.List.{length-take-le, drop-drop, drop_at, drop_all, take_at, drop-append-le}
 use borrow.Rule.Slice.PartMut.{put_mid, post_of}
@@ -45,7 +46,8 @@ behind_ending w zero text z ends h = record {
 }
 behind_ending w (suc n) text z ends h = absurd (omega arith)
 
-pub at_end : (w n : ℕ) (text : List ℕ) → n ≡ 0 → has_endings_from w n false text ≡ true → starts_with_ending text ≡ false → 0 < length (joined_from w n false text) → ⊥
+pub at_end : (w n : ℕ) (text : List ℕ) → n ≡ 0 → has_endings_from w n false text ≡ true → starts_with_ending text ≡ false
+    → 0 < length (joined_from w n false text) → ⊥
 at_end w zero text z ends h some =
     both_ways (starts_with_ending text)
     h (and_parts (starts_with_ending text) (has_endings_from w w false (after_ending text)) (sym (ends_after w text (some_text_left w 0 text some)) ∙ ends)).0
@@ -92,11 +94,13 @@ cut_more w count text line rest c lt h =
       ends = c.ends ∙ f.ends ∙ rw h refl;
       within = omega arith;
       full = inr len;
-      tail = rw back (ap (λ n. drop n (joined_from w w false text)) (sym at) ∙ sym (drop-drop (length line) (count - length line) (joined_from w w false text)) ∙ ap (drop (length line)) c.tail
+      tail = rw back (ap (λ n. drop n (joined_from w w false text)) (sym at)
+          ∙ sym (drop-drop (length line) (count - length line) (joined_from w w false text)) ∙ ap (drop (length line)) c.tail
           ∙ drop_at line (joined_from w w false rest) (length line) refl ∙ f.join h);
     }
 
-pub cut_bad : (w count : ℕ) (text line rest : List ℕ) → IsCut w count text line rest → w < length rest → starts_with_ending (drop w rest) ≡ false → has_endings_from w w false text ≡ false
+pub cut_bad : (w count : ℕ) (text line rest : List ℕ) → IsCut w count text line rest → w < length rest → starts_with_ending (drop w rest) ≡ false
+    → has_endings_from w w false text ≡ false
 cut_bad w count text line rest c lt h = c.ends ∙ (full_line w rest lt).ends ∙ rw h refl
 
 -- all full lines were cut off
@@ -138,18 +142,23 @@ last_ending (c ∷ d ∷ text) some =
     rw e (last_ending (d ∷ text) (omega arith))
 
 -- the last characters of a line and what follows it, as they are copied to a block
-pub last_characters : (line rest zeros front back : List ℕ) (len behind : ℕ) → behind ≤ length rest → behind ≤ len → (behind < len → behind ≡ length rest) → len ≤ length line + length rest
+pub last_characters : (line rest zeros front back : List ℕ) (len behind : ℕ) → behind ≤ length rest → behind ≤ len → (behind < len → behind ≡ length rest)
+    → len ≤ length line + length rest
     → front ≡ drop (length line - (len - behind)) line → back ≡ drop (length rest - behind) rest
     → take len (put_mid (len - behind) (len - (len - behind)) (front ++ zeros) back) ≡ drop (length line + length rest - len) (line ++ rest)
 last_characters line rest zeros front back len behind few most full fits is_front is_back =
-    let l1 : length front ≡ len - behind = ap length is_front ∙ length-drop (length line - (len - behind)) line ∙ (elim (cases_lt behind len) [ inl lt ↦ (let e = full lt in omega arith) | inr ge ↦ omega arith ]) in
+    let l1 : length front ≡ len - behind = ap length is_front ∙ length-drop (length line - (len - behind)) line
+    ∙ (elim (cases_lt behind len) [ inl lt ↦ (let e = full lt in omega arith) | inr ge ↦ omega arith ]) in
     let l2 : length back ≡ behind = ap length is_back ∙ length-drop (length rest - behind) rest ∙ omega arith in
     let e1 : take (len - behind) (front ++ zeros) ≡ front = take_at front zeros (len - behind) l1 in
     let post : List ℕ = post_of (len - behind) (len - (len - behind)) (front ++ zeros) in
-    let whole : put_mid (len - behind) (len - (len - behind)) (front ++ zeros) back ≡ (front ++ back) ++ post_of (len - behind) (len - (len - behind)) (front ++ zeros)
-    = ap (λ (us : List ℕ). us ++ (back ++ post_of (len - behind) (len - (len - behind)) (front ++ zeros))) e1 ∙ sym (append_assoc front back (post_of (len - behind) (len - (len - behind)) (front ++ zeros))) in
+    let whole : put_mid (len - behind) (len - (len - behind)) (front ++ zeros) back ≡ (front ++ back)
+    ++ post_of (len - behind) (len - (len - behind)) (front ++ zeros)
+    = ap (λ (us : List ℕ). us ++ (back ++ post_of (len - behind) (len - (len - behind)) (front ++ zeros))) e1
+    ∙ sym (append_assoc front back (post_of (len - behind) (len - (len - behind)) (front ++ zeros))) in
     let both : length (front ++ back) ≡ len = length-append front back ∙ omega arith in
-    let cut : take len (put_mid (len - behind) (len - (len - behind)) (front ++ zeros) back) ≡ front ++ back = ap (take len) whole ∙ take_at (front ++ back) (post_of (len - behind) (len - (len - behind)) (front ++ zeros)) len both in
+    let cut : take len (put_mid (len - behind) (len - (len - behind)) (front ++ zeros) back) ≡ front ++ back = ap (take len) whole
+    ∙ take_at (front ++ back) (post_of (len - behind) (len - (len - behind)) (front ++ zeros)) len both in
     cut ∙ elim (cases_lt behind len) [
       | inl lt ↦ (let e = full lt in
           let at : length line + length rest - len ≡ length line - (len - behind) = omega arith in

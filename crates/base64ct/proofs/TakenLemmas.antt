@@ -1,5 +1,6 @@
 -- Items that were taken, and why they were not.
-use Rattle.std.proofs.Common.{◌≡◌, ℕ, ◌+◌, ◌<◌, ◌≤◌, ◌^◌, List, [], ◌∷◌, ◌++◌, length, take, arith, refl, ap, sym, ◌∙◌, map, append-nil, Option, Some, None, Contains, inl, inr, length-append, subst, Result, Ok, Err, OnErr}
+use Rattle.std.proofs.Common.{◌≡◌, ℕ, ◌+◌, ◌<◌, ◌≤◌, ◌^◌, List, [], ◌∷◌, ◌++◌, length, take, arith, refl, ap, sym, ◌∙◌, map, append-nil, Option, Some, None}
+use Rattle.std.proofs.Common.{Contains, inl, inr, length-append, subst, Result, Ok, Err, OnErr}
 use Rattle.std.proofs.lemmas.Bool.{cases_eq}
 use Rattle.std.proofs.lemmas.List.{take_all}
 use Rattle.std.specs.Io.KnownBytes.{Consumes, IsAtEnd}
@@ -37,7 +38,8 @@ no_take left k InvalidEncoding b h all is =
 no_take left k OutOfMemory b h all is = h
 
 -- a bad item stops a read of at most m bytes
-pub read_error : (left : List (Option ℕ)) (n m : ℕ) (e : Error) → IsTakeError left n e → n ≤ length left → n ≤ m → (n < m → n ≡ length left) → Contains (take m left) None
+pub read_error : (left : List (Option ℕ)) (n m : ℕ) (e : Error) → IsTakeError left n e → n ≤ length left → n ≤ m → (n < m → n ≡ length left)
+    → Contains (take m left) None
 read_error left n m InvalidLength h le most all = absurd (omega arith)
 read_error left n m InvalidEncoding h le most all = elim (cases_eq n m) [
   | inl is ↦ subst (λ (k : ℕ). Contains (take k left) None) is h.1

@@ -1,5 +1,6 @@
 -- Texts cut into lines, and the walk over their characters.
-use Rattle.std.proofs.Common.{◌≡◌, ℕ, zero, suc, ◌+◌, ◌-◌, ◌*◌, ◌/◌, ◌%◌, ◌<◌, ◌≤◌, List, [], ◌∷◌, ◌++◌, length, take, drop, arith, refl, ap, sym, ◌∙◌, append_assoc, length-append, length-drop, inl, inr, subst}
+use Rattle.std.proofs.Common.{◌≡◌, ℕ, zero, suc, ◌+◌, ◌-◌, ◌*◌, ◌/◌, ◌%◌, ◌<◌, ◌≤◌, List, [], ◌∷◌, ◌++◌, length, take, drop, arith, refl, ap, sym, ◌∙◌}
+use Rattle.std.proofs.Common.{append_assoc, length-append, length-drop, inl, inr, subst}
 use Rattle.std.proofs.lemmas.Bool.{cases_lt}
 use Rattle.std.proofs.lemmas.List.{drop-drop, take-append-drop, length-take-le}
 use Rattle.std.proofs.lemmas.Nat.{div-mul-add, div-add-mod'}
@@ -34,7 +35,8 @@ full_line zero ending (c ∷ t) low some = absurd (omega arith)
 full_line (suc w) ending (c ∷ t) low some = let e : suc w - 1 ≡ w = omega arith in rw e refl
 
 -- a text and a further one
-pub wrapped_from-append : (w : ℕ) (ending : List ℕ) (n : ℕ) (t u : List ℕ) → wrapped_from w ending n (t ++ u) ≡ wrapped_from w ending n t ++ wrapped_from w ending (left_from w n t) u
+pub wrapped_from-append : (w : ℕ) (ending : List ℕ) (n : ℕ) (t u : List ℕ)
+    → wrapped_from w ending n (t ++ u) ≡ wrapped_from w ending n t ++ wrapped_from w ending (left_from w n t) u
 wrapped_from-append w ending zero [] u = refl
 wrapped_from-append w ending (suc n) [] u = refl
 wrapped_from-append w ending zero (c ∷ t) u =
@@ -156,7 +158,8 @@ is_ending CR = Cr
 is_ending LF = Lf
 is_ending CRLF = Crlf
 
-lines_up_to : (k w : ℕ) (ending : LineEnding) (t : List ℕ) → 0 < w → 0 < length t → IsLine t → length t ≤ k → Lines w (wrapped_from w (ending_bytes ending) w t) t
+lines_up_to : (k w : ℕ) (ending : LineEnding) (t : List ℕ) → 0 < w → 0 < length t → IsLine t → length t ≤ k
+    → Lines w (wrapped_from w (ending_bytes ending) w t) t
 lines_up_to zero w ending t low some is le = absurd (omega arith)
 lines_up_to (suc k) w ending t low some is le = elim (cases_lt w (length t)) [
   | inl lt ↦ (let e : List ℕ = ending_bytes ending in
@@ -166,7 +169,8 @@ lines_up_to (suc k) w ending t low some is le = elim (cases_lt w (length t)) [
       let parts = line_parts (take w t) (drop w t) (subst IsLine (sym whole) is) in
       let r = lines_up_to k w ending (drop w t) low (omega arith) parts.1 (omega arith) in
       let cut : wrapped_from w e w t ≡ take w t ++ e ++ wrapped_from w e w (drop w t)
-      = take_line w e w t ∙ ap (λ xs. take w t ++ xs) (full_line w e (drop w t) low (omega arith)) ∙ sym (append_assoc (take w t) e (wrapped_from w e w (drop w t))) in
+      = take_line w e w t ∙ ap (λ xs. take w t ++ xs) (full_line w e (drop w t) low (omega arith))
+      ∙ sym (append_assoc (take w t) e (wrapped_from w e w (drop w t))) in
       let lines : Lines w (take w t ++ e ++ wrapped_from w e w (drop w t)) (take w t ++ drop w t)
       = More (take w t) e (wrapped_from w e w (drop w t)) (drop w t) parts.0 full (is_ending ending) r in
       subst (λ xs. Lines w xs t) (sym cut) (subst (λ xs. Lines w (take w t ++ e ++ wrapped_from w e w (drop w t)) xs) whole lines))
@@ -212,7 +216,8 @@ wrapped-injective w ending t u low e =
 -- ---- the loop that parts lines in place
 
 -- a run of characters that fit into the line
-take_run : (w : ℕ) (ending : List ℕ) (k n : ℕ) (t : List ℕ) → k ≤ n → k ≤ length t → wrapped_from w ending n t ≡ take k t ++ wrapped_from w ending (n - k) (drop k t)
+take_run : (w : ℕ) (ending : List ℕ) (k n : ℕ) (t : List ℕ) → k ≤ n → k ≤ length t
+    → wrapped_from w ending n t ≡ take k t ++ wrapped_from w ending (n - k) (drop k t)
 take_run w ending zero n t fits long = let e : n - 0 ≡ n = omega arith in rw e refl
 take_run w ending (suc k) zero t fits long = absurd (omega arith)
 take_run w ending (suc k) (suc n) [] fits long = absurd (omega arith)
@@ -242,7 +247,8 @@ pub record IsParted (w : ℕ) (ending whole : List ℕ) (last : ℕ) (out : List
   pub ends : left_from w left (drop read out) ≡ last
 
 -- nothing is written above what was read
-pub parted_low : (w : ℕ) (ending whole : List ℕ) (last : ℕ) (out : List ℕ) (read written left : ℕ) → IsParted w ending whole last out read written left → written ≤ read
+pub parted_low : (w : ℕ) (ending whole : List ℕ) (last : ℕ) (out : List ℕ) (read written left : ℕ) → IsParted w ending whole last out read written left
+    → written ≤ read
 parted_low w ending whole last out read written left p =
     let l = length-wrapped_from w ending left (drop read out) in
     let d : length (drop read out) ≡ length out - read = length-drop read out in
@@ -260,7 +266,8 @@ parted_ending w ending whole last out read written left p low full more =
 
 -- the ending behind a full line is written
 pub parted_line : (w : ℕ) (ending whole : List ℕ) (last : ℕ) (out new : List ℕ) (read written left : ℕ) → IsParted w ending whole last out read written left
-    → 0 < w → left ≡ 0 → read < length out → length new ≡ length out → take (written + length ending) new ≡ take written out ++ ending → drop read new ≡ drop read out
+    → 0 < w → left ≡ 0 → read < length out → length new ≡ length out → take (written + length ending) new ≡ take written out ++ ending
+    → drop read new ≡ drop read out
     → IsParted w ending whole last new read (written + length ending) w
 parted_line w ending whole last out new read written left p low full more len front back =
     let d : length (drop read out) ≡ length out - read = length-drop read out in
@@ -270,7 +277,8 @@ parted_line w ending whole last out new read written left p low full more len fr
     record {
       within = (let i = p.within in omega arith);
       room = rw back (let r = p.room in let m = ap length e in omega arith);
-      text = rw (front, back) (append_assoc (take written out) ending (wrapped_from w ending w (drop read out)) ∙ ap (λ xs. take written out ++ xs) (sym e) ∙ p.text);
+      text = rw (front, back) (append_assoc (take written out) ending (wrapped_from w ending w (drop read out)) ∙ ap (λ xs. take written out ++ xs) (sym e)
+          ∙ p.text);
       ends = rw back (sym (left_full w (drop read out) low (omega arith)) ∙ ap (λ n. left_from w n (drop read out)) (sym full) ∙ p.ends);
     }
 

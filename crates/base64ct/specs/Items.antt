@@ -1,5 +1,6 @@
 -- What a decoder has left: for each byte to come its value, or `None` where its block is bad.
-use Rattle.std.specs.Prelude.{◌≡◌, ℕ, ◌+◌, ◌<◌, ◌≤◌, ◌^◌, Bool, true, false, ◌⊎◌, if◌then◌else◌, List, [], ◌∷◌, ◌++◌, length, take, drop, map, Option, Some, None, Contains}
+use Rattle.std.specs.Prelude.{◌≡◌, ℕ, ◌+◌, ◌<◌, ◌≤◌, ◌^◌, Bool, true, false, ◌⊎◌, if◌then◌else◌, List, [], ◌∷◌, ◌++◌, length, take, drop, map, Option, Some}
+use Rattle.std.specs.Prelude.{None, Contains}
 use Rattle.base64_alphabet.specs.Table.{all_in}
 use Rattle.base64_alphabet.specs.Group.{End, bytes_of}
 use Rattle.base64_text.specs.Canonical.{loose_bytes}
@@ -10,7 +11,8 @@ use Rattle.base64_text.specs.declared.errors.Error.TheVariants.{InvalidEncoding,
 
 -- the items of whole blocks: three bytes for each, or three bad items where a character isn't in the table
 unfoldable pub block_items : End → List ℕ → List ℕ → List (Option ℕ)
-block_items end table (p ∷ q ∷ r ∷ s ∷ rest) = (if all_in table (p ∷ q ∷ r ∷ s ∷ []) then map Some (bytes_of end table p q r s) else None ∷ None ∷ None ∷ []) ++ block_items end table rest
+block_items end table (p ∷ q ∷ r ∷ s ∷ rest) = (if all_in table (p ∷ q ∷ r ∷ s ∷ []) then map Some (bytes_of end table p q r s) else None ∷ None ∷ None
+    ∷ []) ++ block_items end table rest
 block_items end table _ = []
 
 -- the items of a text: those of its blocks before the last, and the bytes of the last

@@ -1,5 +1,6 @@
 -- Texts in lines (after the line endings of RFC 7468 section 2).
-use Rattle.std.specs.Prelude.{◌≡◌, ℕ, zero, suc, ◌<◌, ◌≤◌, nat_lt, Bool, true, false, ◌==◌, ◌&&◌, ◌||◌, if◌then◌else◌, List, [], ◌∷◌, ◌++◌, ◌-◌, length, slice_index, take, drop, All}
+use Rattle.std.specs.Prelude.{◌≡◌, ℕ, zero, suc, ◌<◌, ◌≤◌, nat_lt, Bool, true, false, ◌==◌, ◌&&◌, ◌||◌, if◌then◌else◌, List, [], ◌∷◌, ◌++◌, ◌-◌, length}
+use Rattle.std.specs.Prelude.{slice_index, take, drop, All}
 use Rattle.base64_alphabet.specs.Group.{End}
 use Rattle.base64_alphabet.specs.Encoding.{encoding_of}
 use Rattle.base64_text.specs.Canonical.{IsBytes}

@@ -1,5 +1,6 @@
 -- Reading of a text in lines from the front.
-use Rattle.std.specs.Prelude.{◌≡◌, ℕ, ◌+◌, ◌-◌, ◌*◌, ◌<◌, ◌≤◌, Bool, true, false, ◌==◌, ◌&&◌, ◌⊎◌, if◌then◌else◌, List, [], ◌∷◌, ◌++◌, length, take, drop, map, Option, Some}
+use Rattle.std.specs.Prelude.{◌≡◌, ℕ, ◌+◌, ◌-◌, ◌*◌, ◌<◌, ◌≤◌, Bool, true, false, ◌==◌, ◌&&◌, ◌⊎◌, if◌then◌else◌, List, [], ◌∷◌, ◌++◌, length, take, drop, map}
+use Rattle.std.specs.Prelude.{Option, Some}
 use Rattle.base64_alphabet.specs.Group.{End}
 use Rattle.base64ct.specs.Lines.{is_line_break}
 use Rattle.base64ct.specs.Items.{block_items}
@@ -51,7 +52,8 @@ pub record IsFew (f : Few) : Type 0 where
 
 -- what a decoder has left: bytes of a block that was read, whole blocks, and the bytes of the last block
 abbrev pub items_left : End → List ℕ → Left → List (Option ℕ)
-items_left end table s = map Some (few_bytes s.pending) ++ (block_items end table (take (4 * s.blocks) (characters_left s.reader)) ++ map Some (few_bytes s.last))
+items_left end table s = map Some (few_bytes s.pending) ++ (block_items end table (take (4 * s.blocks) (characters_left s.reader))
+    ++ map Some (few_bytes s.last))
 
 pub record IsLeft (s : Left) : Type 0 where
   pub reader : IsReader s.reader

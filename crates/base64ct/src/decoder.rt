@@ -1,7 +1,8 @@
 //! Decoding of texts in lines.
 #![tactic(auto)]
 
-ghost use Rattle.std.specs.Prelude.{◌≡◌, ℕ, ◌≤◌, ◌<◌, ◌+◌, ◌-◌, ◌*◌, ◌^◌, ◌++◌, ◌⊎◌, ◌↔◌, ⊤, MatchResult, map, length, vec_len, take, Some, min, None, Contains, Ok, OnOk, OnErr, IfOk, IfErr, IsOk, IsOkAnd, [], List, true, false};
+ghost use Rattle.std.specs.Prelude.{◌≡◌, ℕ, ◌≤◌, ◌<◌, ◌+◌, ◌-◌, ◌*◌, ◌^◌, ◌++◌, ◌⊎◌, ◌↔◌, ⊤, MatchResult, map, length, vec_len, take, Some, min, None};
+ghost use Rattle.std.specs.Prelude.{Contains, Ok, OnOk, OnErr, IfOk, IfErr, IsOk, IsOkAnd, [], List, true, false};
 ghost use Rattle.std.specs.Io.{ReadsAtMost};
 ghost use Rattle.std.specs.Borrow.{sem};
 ghost use Rattle.std.specs.Io.BufRead.{Rests};

@@ -1,7 +1,8 @@
 //! What a decoder has left: bytes of a block that was read, whole blocks, and the bytes of the last block.
 #![tactic(auto)]
 
-ghost use Rattle.std.specs.Prelude.{◌≡◌, ℕ, ◌+◌, ◌-◌, ◌*◌, ◌<◌, ◌≤◌, ◌++◌, List, [], length, take, drop, map, Option, Some, None, Contains, IfSome, IfNone, IfOk, IfErr, true};
+ghost use Rattle.std.specs.Prelude.{◌≡◌, ℕ, ◌+◌, ◌-◌, ◌*◌, ◌<◌, ◌≤◌, ◌++◌, List, [], length, take, drop, map, Option, Some, None, Contains, IfSome, IfNone};
+ghost use Rattle.std.specs.Prelude.{IfOk, IfErr, true};
 ghost use Rattle.base64_alphabet.specs.Encoding.{bytes_of_blocks};
 ghost use Rattle.base64_alphabet.specs.Table.{all_in};
 ghost use Rattle.base64_text.specs.LastBlock.{HasCanonicalEnd};

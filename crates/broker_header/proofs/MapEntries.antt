@@ -1,5 +1,6 @@
 -- A map from texts at a text, after an entry went in or out.
-use Rattle.std.proofs.Common.{◌≡◌, ℕ, List, [], ◌∷◌, Some, Bool, true, false, cond, nat_cmp, is_eq, bytes_eq, Ordering, Less, Equal, Greater, refl, sym, ap, ◌∙◌}
+use Rattle.std.proofs.Common.{◌≡◌, ℕ, List, [], ◌∷◌, Some, Bool, true, false, cond, nat_cmp, is_eq, bytes_eq, Ordering, Less, Equal, Greater, refl, sym, ap}
+use Rattle.std.proofs.Common.{◌∙◌}
 use Rattle.std.proofs.lemmas.Cmp.{nat_list_cmp_total, tied_itself}
 use Rattle.std.proofs.lemmas.Map.Text.{is_eq-slice_cmp}
 use Rattle.std.proofs.lemmas.Slice.Eq.{bytes_eq-Decides}
@@ -22,7 +23,8 @@ differ xs ys false e other = refl
 apart : (xs ys : List ℕ) → (xs ≡ ys → ⊥) → is_eq (slice_cmp nat_cmp xs ys) ≡ false
 apart xs ys other = is_eq-slice_cmp xs ys ∙ differ xs ys _ refl other
 
-at_same : (o : Ordering) (k l : List ℕ) (v w : List ℕ) (es : Entries) → slice_cmp nat_cmp k l ≡ o → lookup (is_at (slice_cmp nat_cmp k)) (insert_entry (slice_cmp nat_cmp) es k v) ≡ Some v
+at_same : (o : Ordering) (k l : List ℕ) (v w : List ℕ) (es : Entries) → slice_cmp nat_cmp k l ≡ o
+    → lookup (is_at (slice_cmp nat_cmp k)) (insert_entry (slice_cmp nat_cmp) es k v) ≡ Some v
     → lookup (is_at (slice_cmp nat_cmp k)) (match_ordering o ((k, v) ∷ (l, w) ∷ es) ((l, v) ∷ es) ((l, w) ∷ insert_entry (slice_cmp nat_cmp) es k v)) ≡ Some v
 at_same Less k l v w es is later = rw same_text
 at_same Equal k l v w es is later = rw is
@@ -35,7 +37,8 @@ found_same k v (e ∷ es) = at_same _ k e.0 v e.1 es refl (found_same k v es)
 
 at_other : (o : Ordering) (q k l : List ℕ) (v w : List ℕ) (es : Entries) → slice_cmp nat_cmp k l ≡ o → (q ≡ k → ⊥)
     → lookup (is_at (slice_cmp nat_cmp q)) (insert_entry (slice_cmp nat_cmp) es k v) ≡ lookup (is_at (slice_cmp nat_cmp q)) es
-    → lookup (is_at (slice_cmp nat_cmp q)) (match_ordering o ((k, v) ∷ (l, w) ∷ es) ((l, v) ∷ es) ((l, w) ∷ insert_entry (slice_cmp nat_cmp) es k v)) ≡ lookup (is_at (slice_cmp nat_cmp q)) ((l, w) ∷ es)
+    → lookup (is_at (slice_cmp nat_cmp q)) (match_ordering o ((k, v) ∷ (l, w) ∷ es) ((l, v) ∷ es) ((l, w) ∷ insert_entry (slice_cmp nat_cmp) es k v))
+    ≡ lookup (is_at (slice_cmp nat_cmp q)) ((l, w) ∷ es)
 at_other Less q k l v w es is other later = rw (apart q k other)
 at_other Equal q k l v w es is other later =
     let same : k ≡ l = tied k l (ap is_eq is) in

@@ -1,5 +1,6 @@
 -- A stored map beside its entries.
-use Rattle.std.proofs.Common.{◌≡◌, ℕ, suc, List, [], ◌∷◌, Bool, true, false, Option, Some, None, option_map, is_some, cond, length, Global, Bor, String, string_bytes, string_cmp, nat_cmp, is_eq, Ordering, Less, Equal, Greater, refl, sym, ap, ◌∙◌}
+use Rattle.std.proofs.Common.{◌≡◌, ℕ, suc, List, [], ◌∷◌, Bool, true, false, Option, Some, None, option_map, is_some, cond, length, Global, Bor, String}
+use Rattle.std.proofs.Common.{string_bytes, string_cmp, nat_cmp, is_eq, Ordering, Less, Equal, Greater, refl, sym, ap, ◌∙◌}
 use Rattle.std.specs.Cmp.Lexicographic.{slice_cmp}
 use Rattle.std.specs.Map.{lookup, remove_entry}
 use Rattle.std.specs.Ordering.{match_ordering}
@@ -13,12 +14,14 @@ Stored = List (String Global × String Global)
 abbrev beside : List ℕ → String Global → Ordering
 beside q k = slice_cmp nat_cmp q (string_bytes k)
 
-stored-match_ordering : (o : Ordering) (a b c : Stored) → stored_entries (match_ordering o a b c) ≡ match_ordering o (stored_entries a) (stored_entries b) (stored_entries c)
+stored-match_ordering : (o : Ordering) (a b c : Stored) → stored_entries (match_ordering o a b c)
+    ≡ match_ordering o (stored_entries a) (stored_entries b) (stored_entries c)
 stored-match_ordering Less a b c = refl
 stored-match_ordering Equal a b c = refl
 stored-match_ordering Greater a b c = refl
 
-pub stored_with : (es : Stored) (k v : String Global) → stored_entries (insert_entry string_cmp es k v) ≡ with_entry (stored_entries es) (string_bytes k) (string_bytes v)
+pub stored_with : (es : Stored) (k v : String Global) → stored_entries (insert_entry string_cmp es k v)
+    ≡ with_entry (stored_entries es) (string_bytes k) (string_bytes v)
 stored_with [] k v = refl
 stored_with (e ∷ es) k v = stored-match_ordering (string_cmp k e.0) _ _ _ ∙ rw (stored_with es k v)
 
@@ -48,16 +51,19 @@ stored_length [] = refl
 stored_length (e ∷ es) = ap (λ n. suc n) (stored_length es)
 
 -- a map after an entry went into its stored map
-pub stored_added : (was : Entries) (es new : Stored) (key value : String Global) (k v : List ℕ) → stored_entries es ≡ was → new ≡ insert_entry string_cmp es key value → string_bytes key ≡ k → string_bytes value ≡ v
+pub stored_added : (was : Entries) (es new : Stored) (key value : String Global) (k v : List ℕ) → stored_entries es ≡ was
+    → new ≡ insert_entry string_cmp es key value → string_bytes key ≡ k → string_bytes value ≡ v
     → stored_entries new ≡ with_entry was k v
 stored_added was es new key value k v before is at_key of_value = rw (← before, is, stored_with es key value, at_key, of_value)
 
 -- and after a key went out
-pub stored_removed : (q : List ℕ) (was : Entries) (es new : Stored) → stored_entries es ≡ was → new ≡ remove_entry (is_at (beside q)) es → stored_entries new ≡ without_entry q was
+pub stored_removed : (q : List ℕ) (was : Entries) (es new : Stored) → stored_entries es ≡ was → new ≡ remove_entry (is_at (beside q)) es
+    → stored_entries new ≡ without_entry q was
 stored_removed q was es new before is = rw (← before, is) (stored_without q es)
 
 -- what a look-up lends
-pub stored_found : (q : List ℕ) (was : Entries) (es : Stored) (v : Bor (String Global)) (text : List ℕ) → stored_entries es ≡ was → Some v.now ≡ lookup (is_at (beside q)) es → text ≡ string_bytes v.now
+pub stored_found : (q : List ℕ) (was : Entries) (es : Stored) (v : Bor (String Global)) (text : List ℕ) → stored_entries es ≡ was
+    → Some v.now ≡ lookup (is_at (beside q)) es → text ≡ string_bytes v.now
     → Some text ≡ find_entry q was
 stored_found q was es v text before found is = rw (is, ← before) (ap (option_map string_bytes) found ∙ stored_lookup q es)
 
@@ -65,7 +71,8 @@ pub stored_none : (q : List ℕ) (was : Entries) (es : Stored) → stored_entrie
 stored_none q was es before found = rw (← before) (ap (option_map string_bytes) found ∙ stored_lookup q es)
 
 -- whether one was there
-pub stored_was : (q : List ℕ) (was : Entries) (es : Stored) (r : Option (String Global)) → stored_entries es ≡ was → r ≡ lookup (is_at (beside q)) es → is_some r ≡ is_some (find_entry q was)
+pub stored_was : (q : List ℕ) (was : Entries) (es : Stored) (r : Option (String Global)) → stored_entries es ≡ was → r ≡ lookup (is_at (beside q)) es
+    → is_some r ≡ is_some (find_entry q was)
 stored_was q was es r before is = rw (← before, is, ← stored_lookup q es) (sym (stored_is_some _))
 
 -- and that none is there any more

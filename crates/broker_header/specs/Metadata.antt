@@ -1,5 +1,6 @@
 -- Metadata: a map from keys to values, as the list of its entries in ascending order of the keys' bytes.
-use Rattle.std.specs.Prelude.{◌≡◌, ◌⊎◌, ℕ, ◌||◌, ◌&&◌, ◌==◌, nat_le, nat_lt, List, length, map, Bool, Result, Ok, Err, IsOk, Option, String, string_bytes, if◌then◌else◌}
+use Rattle.std.specs.Prelude.{◌≡◌, ◌⊎◌, ℕ, ◌||◌, ◌&&◌, ◌==◌, nat_le, nat_lt, List, length, map, Bool, Result, Ok, Err, IsOk, Option, String, string_bytes}
+use Rattle.std.specs.Prelude.{if◌then◌else◌}
 use Rattle.std.specs.declared.alloc.Global.{Global}
 use Rattle.std.specs.List.{list_all}
 use Rattle.std.specs.Ordering.{nat_cmp}

@@ -1,5 +1,6 @@
 -- Lists of keys, and the arrays that they are.
-use Rattle.std.proofs.Common.{◌≡◌, ◌≤◌, ℕ, ◌+◌, ◌∙◌, List, [], ◌∷◌, ◌++◌, Bool, true, false, cond, not, ◌&&◌, ◌||◌, Option, Some, None, Ok, filter, length, map, count_by, is_some, unwrap_or, max, refl, sym, ap, arith, true≢false}
+use Rattle.std.proofs.Common.{◌≡◌, ◌≤◌, ℕ, ◌+◌, ◌∙◌, List, [], ◌∷◌, ◌++◌, Bool, true, false, cond, not, ◌&&◌, ◌||◌, Option, Some, None, Ok, filter, length}
+use Rattle.std.proofs.Common.{map, count_by, is_some, unwrap_or, max, refl, sym, ap, arith, true≢false}
 use Rattle.std.proofs.lemmas.List.Sums.{length-filter}
 use Rattle.std.specs.List.{list_all, position_from}
 use Rattle.serde_json.specs.Data.{Data, Items, no_items, item, depth, items_depth}
@@ -38,7 +39,8 @@ module _ (p : Data → Bool) where
   all_selected [] = refl
   all_selected (d ∷ ds) = all_at (p d) d ds refl (all_selected ds)
 
-  whole_at : (b : Bool) (d : Data) (ds : List Data) → has_float d ≡ false → items_have_float (items_of (filter p ds)) ≡ false → items_have_float (items_of (cond b (d ∷ filter p ds) (filter p ds))) ≡ false
+  whole_at : (b : Bool) (d : Data) (ds : List Data) → has_float d ≡ false → items_have_float (items_of (filter p ds)) ≡ false
+      → items_have_float (items_of (cond b (d ∷ filter p ds) (filter p ds))) ≡ false
   whole_at true d ds whole rest = rw whole rest
   whole_at false d ds whole rest = rest
 
@@ -46,7 +48,8 @@ module _ (p : Data → Bool) where
   whole_selected [] e = refl
   whole_selected (d ∷ ds) e = let w = neither (has_float d) (items_have_float (items_of ds)) e in whole_at (p d) d ds w.0 (whole_selected ds w.1)
 
-  depth_at : (b : Bool) (d : Data) (ds : List Data) → items_depth (items_of (filter p ds)) ≤ items_depth (items_of ds) → items_depth (items_of (cond b (d ∷ filter p ds) (filter p ds))) ≤ items_depth (items_of (d ∷ ds))
+  depth_at : (b : Bool) (d : Data) (ds : List Data) → items_depth (items_of (filter p ds)) ≤ items_depth (items_of ds)
+      → items_depth (items_of (cond b (d ∷ filter p ds) (filter p ds))) ≤ items_depth (items_of (d ∷ ds))
   depth_at true d ds rest = omega arith
   depth_at false d ds rest = omega arith
 
@@ -76,12 +79,14 @@ none_selected p d ds is rest = rw is rest
 x509_selected : (ds : List Data) → list_all is_jwt_key ds ≡ true → length (filter (λ d. is_for_x509 (use_of d)) ds) ≡ 0
 x509_selected [] e = refl
 x509_selected (d ∷ ds) e =
-    let w = both (is_jwt_key d) (list_all is_jwt_key ds) e in none_selected (λ d. is_for_x509 (use_of d)) d ds (tokens_alone (use_of d) w.0).0 (x509_selected ds w.1)
+    let w = both (is_jwt_key d) (list_all is_jwt_key ds) e in
+    none_selected (λ d. is_for_x509 (use_of d)) d ds (tokens_alone (use_of d) w.0).0 (x509_selected ds w.1)
 
 neither_selected : (ds : List Data) → list_all is_jwt_key ds ≡ true → length (filter (λ d. is_for_neither (use_of d)) ds) ≡ 0
 neither_selected [] e = refl
 neither_selected (d ∷ ds) e =
-    let w = both (is_jwt_key d) (list_all is_jwt_key ds) e in none_selected (λ d. is_for_neither (use_of d)) d ds (tokens_alone (use_of d) w.0).1 (neither_selected ds w.1)
+    let w = both (is_jwt_key d) (list_all is_jwt_key ds) e in
+    none_selected (λ d. is_for_neither (use_of d)) d ds (tokens_alone (use_of d) w.0).1 (neither_selected ds w.1)
 
 pub no_x509 : (ds : List Data) → list_all is_jwt_key ds ≡ true → count_by (λ d. is_for_x509 (use_of d)) ds ≡ 0
 no_x509 ds e = sym (length-filter (λ d. is_for_x509 (use_of d)) ds) ∙ x509_selected ds e
@@ -91,8 +96,10 @@ no_neither ds e = sym (length-filter (λ d. is_for_neither (use_of d)) ds) ∙ n
 
 -- ---- names
 
-named_at : (jwt named : Bool) (d : Data) (ds : List Data) (n : ℕ) → is_jwt_key d ≡ jwt → is_named d ≡ named → cond (jwt && not named) (Some n) (position_from is_unnamed (n + 1) ds) ≡ None
-    → (position_from is_unnamed (n + 1) ds ≡ None → list_all is_named (filter is_jwt_key ds) ≡ true) → list_all is_named (cond jwt (d ∷ filter is_jwt_key ds) (filter is_jwt_key ds)) ≡ true
+named_at : (jwt named : Bool) (d : Data) (ds : List Data) (n : ℕ) → is_jwt_key d ≡ jwt → is_named d ≡ named
+    → cond (jwt && not named) (Some n) (position_from is_unnamed (n + 1) ds) ≡ None
+    → (position_from is_unnamed (n + 1) ds ≡ None → list_all is_named (filter is_jwt_key ds) ≡ true)
+    → list_all is_named (cond jwt (d ∷ filter is_jwt_key ds) (filter is_jwt_key ds)) ≡ true
 named_at true true d ds n j k e rest = rw k (rest e)
 named_at true false d ds n j k e rest = cc
 named_at false named d ds n j k e rest = rest e
@@ -102,7 +109,8 @@ pub named_selected : (ds : List Data) (n : ℕ) → position_from is_unnamed n d
 named_selected [] n e = refl
 named_selected (d ∷ ds) n e = named_at (is_jwt_key d) (is_named d) d ds n refl refl e (named_selected ds (n + 1))
 
-unnamed_at : (jwt : Bool) (d : Data) (ds : List Data) (n : ℕ) → is_named d ≡ true → position_from is_unnamed (n + 1) ds ≡ None → cond (jwt && not (is_named d)) (Some n) (position_from is_unnamed (n + 1) ds) ≡ None
+unnamed_at : (jwt : Bool) (d : Data) (ds : List Data) (n : ℕ) → is_named d ≡ true → position_from is_unnamed (n + 1) ds ≡ None
+    → cond (jwt && not (is_named d)) (Some n) (position_from is_unnamed (n + 1) ds) ≡ None
 unnamed_at true d ds n k rest = rw k rest
 unnamed_at false d ds n k rest = rest
 
@@ -133,7 +141,8 @@ module _ (p : Data → Bool) where
   all_more [] v all one = rw one
   all_more (w ∷ vs) v all one = let b = both (p (view w)) (list_all p (map view vs)) all in rw b.0 (all_more vs v b.1 one)
 
-pub whole_more : (vs : List Value) (v : Value) → items_have_float (items_of (map view vs)) ≡ false → has_float (view v) ≡ false → items_have_float (items_of (map view (vs ++ v ∷ []))) ≡ false
+pub whole_more : (vs : List Value) (v : Value) → items_have_float (items_of (map view vs)) ≡ false → has_float (view v) ≡ false
+    → items_have_float (items_of (map view (vs ++ v ∷ []))) ≡ false
 whole_more [] v all one = rw one
 whole_more (w ∷ vs) v all one = let b = neither (has_float (view w)) (items_have_float (items_of (map view vs))) all in rw b.0 (whole_more vs v b.1 one)
 
@@ -141,7 +150,8 @@ appended : (vs : List Value) (v : Value) (rest : List Data) → map view (vs ++ 
 appended [] v rest = refl
 appended (w ∷ vs) v rest = ap (λ more. view w ∷ more) (appended vs v rest)
 
-pub so_far_more : (vs : List Value) (v : Value) (a : Authority) (rest : List Authority) (total : List Data) → map view vs ++ map key_of (a ∷ rest) ≡ total → view v ≡ key_of a
+pub so_far_more : (vs : List Value) (v : Value) (a : Authority) (rest : List Authority) (total : List Data) → map view vs ++ map key_of (a ∷ rest) ≡ total
+    → view v ≡ key_of a
     → map view (vs ++ v ∷ []) ++ map key_of rest ≡ total
 so_far_more vs v a rest total so_far is = appended vs v (map key_of rest) ∙ rw is so_far
 

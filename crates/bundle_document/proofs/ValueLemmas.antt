@@ -1,9 +1,12 @@
 -- The values of key sets and of documents.
-use Rattle.std.proofs.Common.{◌≡◌, ◌≤◌, ◌⊎◌, inl, inr, ℕ, ◌+◌, ◌∙◌, List, [], ◌∷◌, ◌++◌, append_assoc, Bool, true, false, Option, Some, None, Result, Ok, Err, Bor, Vec, Global, option_map, option_and_then, codes, filter, map, get_or, max, Ordering, Less, Equal, Greater, refl, sym, ap, subst, arith}
+use Rattle.std.proofs.Common.{◌≡◌, ◌≤◌, ◌⊎◌, inl, inr, ℕ, ◌+◌, ◌∙◌, List, [], ◌∷◌, ◌++◌, append_assoc, Bool, true, false, Option, Some, None, Result, Ok, Err}
+use Rattle.std.proofs.Common.{Bor, Vec, Global, option_map, option_and_then, codes, filter, map, get_or, max, Ordering, Less, Equal, Greater, refl, sym, ap}
+use Rattle.std.proofs.Common.{subst, arith}
 use Rattle.std.specs.List.{list_all, join_with_byte}
 use Rattle.std.specs.Ordering.{match_ordering, nat_cmp}
 use Rattle.std.specs.Cmp.Lexicographic.{slice_cmp}
-use Rattle.serde_json.specs.Data.{Data, null, boolean, number, string, array, object, unsigned, Items, no_items, item, Members, no_members, member, put, depth, items_depth, members_depth}
+use Rattle.serde_json.specs.Data.{Data, null, boolean, number, string, array, object, unsigned, Items, no_items, item, Members, no_members, member, put, depth}
+use Rattle.serde_json.specs.Data.{items_depth, members_depth}
 use Rattle.serde_json.specs.Find.{get, get_member, as_array, as_str}
 use Rattle.serde_json.specs.View.{view, items_of, items_view}
 use Rattle.serde_json.specs.declared.value.Value.{Value}
@@ -37,7 +40,8 @@ pub record KeysOf (d : Data) (ks : List Data) : Type 0 where
   pub found : option_and_then as_array (get (codes "keys") d) ≡ Some items
   pub are : items_of ks ≡ items
 
-keys_at : (d : Data) (o : Option Items) (ks : List Data) → option_and_then as_array (get (codes "keys") d) ≡ o → map_ok elements (items_or o) ≡ Ok ks → KeysOf d ks
+keys_at : (d : Data) (o : Option Items) (ks : List Data) → option_and_then as_array (get (codes "keys") d) ≡ o → map_ok elements (items_or o) ≡ Ok ks
+    → KeysOf d ks
 keys_at d None ks is e = cc
 keys_at d (Some items) ks is e =
     let same : elements items ≡ ks = cc in
@@ -47,7 +51,8 @@ pub keys_are : (d : Data) (ks : List Data) → keys_in d ≡ Ok ks → KeysOf d 
 keys_are d ks e = keys_at d (option_and_then as_array (get (codes "keys") d)) ks refl e
 
 -- the elements of a stored array
-pub keys_seen : (r : Result (Bor (Vec Value Global)) DocumentError) (d : Data) → map_ok (λ v. items_view v.now.items) r ≡ items_in d → map_ok (λ v. map view v.now.items) r ≡ keys_in d
+pub keys_seen : (r : Result (Bor (Vec Value Global)) DocumentError) (d : Data) → map_ok (λ v. items_view v.now.items) r ≡ items_in d
+    → map_ok (λ v. map view v.now.items) r ≡ keys_in d
 keys_seen (Ok v) d e = ap Ok (sym (elements_of (map view v.now.items))) ∙ ap (map_ok elements) e
 keys_seen (Err broken) d e = ap (map_ok elements) e
 
@@ -58,12 +63,14 @@ pub keys_nest_within : (d : Data) (ks : List Data) → keys_in d ≡ Ok ks → i
 keys_nest_within d ks e = let k = keys_are d ks e in rw k.are (array_nests (codes "keys") d k.items k.found)
 
 -- what is selected of them nests no deeper than JSON is read
-pub readable_selected : (d : Data) (ks sel : List Data) → keys_in d ≡ Ok ks → sel ≡ filter is_jwt_key ks → depth d ≤ max_depth → depth (key_set_value sel) ≤ max_depth
+pub readable_selected : (d : Data) (ks sel : List Data) → keys_in d ≡ Ok ks → sel ≡ filter is_jwt_key ks → depth d ≤ max_depth
+    → depth (key_set_value sel) ≤ max_depth
 readable_selected d ks sel e is nests = rw is (omega (arith, depth_selected is_jwt_key ks, keys_nest_within d ks e, nests))
 
 -- ---- a key with its use
 
-put_whole_at : (o : Ordering) (k l : List ℕ) (d e : Data) (ms : Members) → has_float d ≡ false → has_float e ≡ false → members_have_float ms ≡ false → members_have_float (put k d ms) ≡ false
+put_whole_at : (o : Ordering) (k l : List ℕ) (d e : Data) (ms : Members) → has_float d ≡ false → has_float e ≡ false → members_have_float ms ≡ false
+    → members_have_float (put k d ms) ≡ false
     → members_have_float (match_ordering o (member k d (member l e ms)) (member l d ms) (member l e (put k d ms))) ≡ false
 put_whole_at Less k l d e ms one other rest later = rw (one, other, rest)
 put_whole_at Equal k l d e ms one other rest later = rw (one, rest)
@@ -113,7 +120,8 @@ pub key_set_compact : (ks : List Data) → compact_text (key_set_value ks) ≡ k
 unfolding serde_json_on_literals
 key_set_compact ks = rw (items_joined ks) (simp append_assoc)
 
-pub numbered_compact : (sequence hint : Option ℕ) (a b : ℕ) (ks : List Data) → compact_text (numbered sequence hint (key_set_value ks)) ≡ document_text (plain_document sequence hint a b ks)
+pub numbered_compact : (sequence hint : Option ℕ) (a b : ℕ) (ks : List Data)
+    → compact_text (numbered sequence hint (key_set_value ks)) ≡ document_text (plain_document sequence hint a b ks)
 unfolding serde_json_on_literals
 numbered_compact None None a b ks = rw (items_joined ks) (simp append_assoc)
 numbered_compact None (Some h) a b ks = rw (items_joined ks) (simp append_assoc)
@@ -122,7 +130,8 @@ numbered_compact (Some s) (Some h) a b ks = rw (items_joined ks) (simp append_as
 
 -- ---- what a document keeps
 
-pub document_kept : (k : Data) (ks : List Data) (json : List ℕ) → k ≡ key_set_value ks → items_have_float (items_of ks) ≡ false → list_all is_jwt_key ks ≡ true → list_all is_named ks ≡ true
+pub document_kept : (k : Data) (ks : List Data) (json : List ℕ) → k ≡ key_set_value ks → items_have_float (items_of ks) ≡ false
+    → list_all is_jwt_key ks ≡ true → list_all is_named ks ≡ true
     → json ≡ compact_text k → (depth k ≤ max_depth → whole_json json ≡ Ok k) → (k ≡ key_set_value (keys_listed k)) × IsDocument (keys_listed k) json
 document_kept k ks json is whole jwt named text reads =
     let same : keys_listed k ≡ ks = ap keys_listed is ∙ listed ks in
@@ -136,7 +145,8 @@ document_kept k ks json is whole jwt named text reads =
     (is ∙ ap key_set_value (sym same), subst (λ (x : List Data). IsDocument x json) (sym same) kept)
 
 -- its key set is that of its keys
-pub key_set_accepted : (ks : List Data) (json : List ℕ) → IsDocument ks json → depth (key_set_value ks) ≤ max_depth → key_set_of json ≡ Ok (by_key_id (map named_authority ks))
+pub key_set_accepted : (ks : List Data) (json : List ℕ) → IsDocument ks json → depth (key_set_value ks) ≤ max_depth
+    → key_set_of json ≡ Ok (by_key_id (map named_authority ks))
 unfolding key_set_of
 key_set_accepted ks json h nests = rw (h.reads nests, authorities_named ks h.named)
 
@@ -154,7 +164,8 @@ read_again None (Some h) ks jwt named = rw (elements_of ks) (named_document None
 read_again (Some s) None ks jwt named = rw (elements_of ks) (named_document (Some s) None ks jwt named)
 read_again (Some s) (Some h) ks jwt named = rw (elements_of ks) (named_document (Some s) (Some h) ks jwt named)
 
-pub numbered_whole : (sequence hint : Option ℕ) (ks : List Data) → items_have_float (items_of ks) ≡ false → has_float (numbered sequence hint (key_set_value ks)) ≡ false
+pub numbered_whole : (sequence hint : Option ℕ) (ks : List Data) → items_have_float (items_of ks) ≡ false
+    → has_float (numbered sequence hint (key_set_value ks)) ≡ false
 numbered_whole None None ks whole = rw whole
 numbered_whole None (Some h) ks whole = rw whole
 numbered_whole (Some s) None ks whole = rw whole
@@ -167,7 +178,8 @@ numbered_depth (Some s) None ks = omega arith
 numbered_depth (Some s) (Some h) ks = omega arith
 
 -- what was written of a document reads as that document
-pub written_again : (sequence hint : Option ℕ) (ks : List Data) (v : Data) (jwks json : List ℕ) → IsDocument ks jwks → v ≡ numbered sequence hint (key_set_value ks)
+pub written_again : (sequence hint : Option ℕ) (ks : List Data) (v : Data) (jwks json : List ℕ) → IsDocument ks jwks
+    → v ≡ numbered sequence hint (key_set_value ks)
     → (depth v ≤ max_depth → whole_json json ≡ Ok v) → depth (key_set_value ks) ≤ max_depth → document_of json ≡ Ok (plain_document sequence hint 0 0 ks)
 unfolding document_of
 written_again sequence hint ks v jwks json h is reads nests =

@@ -1,5 +1,6 @@
 -- What a bundle document says (SPIFFE Trust Domain and Bundle, section 4).
-use Rattle.std.specs.Prelude.{◌≡◌, ◌≤◌, ℕ, List, [], ◌++◌, map, Bool, true, false, Option, Some, None, Result, Ok, unwrap_or, option_map, option_and_then, codes, decimal}
+use Rattle.std.specs.Prelude.{◌≡◌, ◌≤◌, ℕ, List, [], ◌++◌, map, Bool, true, false, Option, Some, None, Result, Ok, unwrap_or, option_map, option_and_then}
+use Rattle.std.specs.Prelude.{codes, decimal}
 use Rattle.std.specs.List.{list_all, join_with_byte}
 use Rattle.serde_json.specs.Data.{Data, depth, null, boolean, number, string, array, object, unsigned, put}
 use Rattle.serde_json.specs.Find.{get, as_array}
@@ -51,7 +52,8 @@ number_text name (Some n) = codes ",\"" ++ (name ++ (codes "\":" ++ decimal n))
 
 -- the compact JSON of a document: its keys for tokens, and its numbers
 abbrev pub document_text : Document → List ℕ
-document_text d = codes "{\"keys\":" ++ (keys_text d.keys ++ (number_text (codes "spiffe_refresh_hint") d.refresh_hint ++ (number_text (codes "spiffe_sequence") d.sequence ++ codes "}")))
+document_text d = codes "{\"keys\":" ++ (keys_text d.keys ++
+    (number_text (codes "spiffe_refresh_hint") d.refresh_hint ++ (number_text (codes "spiffe_sequence") d.sequence ++ codes "}")))
 
 -- the keys of a key set's value
 abbrev pub keys_listed : Data → List Data
@@ -71,7 +73,8 @@ with_number name (Some n) (object ms) = object (put name (number (unsigned n)) m
 abbrev pub numbered : Option ℕ → Option ℕ → Data → Data
 numbered sequence refresh_hint d = with_number (codes "spiffe_sequence") sequence (with_number (codes "spiffe_refresh_hint") refresh_hint d)
 
--- what holds of each document: its keys are for tokens, have key IDs and no number that isn't whole, and its key set is their compact JSON, which reads as their value
+-- what holds of each document: its keys are for tokens, have key IDs and no number that isn't whole, and its key set is their compact JSON, which
+-- reads as their value
 pub record IsDocument (keys : List Data) (jwks : List ℕ) : Type 0 where
   pub whole : items_have_float (items_of keys) ≡ false
   pub jwt : list_all is_jwt_key keys ≡ true

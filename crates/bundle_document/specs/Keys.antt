@@ -1,5 +1,6 @@
 -- The keys of a bundle document (SPIFFE Trust Domain and Bundle, section 4.2).
-use Rattle.std.specs.Prelude.{ℕ, nat_eq, List, [], ◌∷◌, Bool, true, false, not, ◌&&◌, Option, Some, None, is_some, unwrap_or, option_and_then, codes, if◌then◌else◌}
+use Rattle.std.specs.Prelude.{ℕ, nat_eq, List, [], ◌∷◌, Bool, true, false, not, ◌&&◌, Option, Some, None, is_some, unwrap_or, option_and_then, codes}
+use Rattle.std.specs.Prelude.{if◌then◌else◌}
 use Rattle.std.specs.Cmp.Lexicographic.{pointwise}
 use Rattle.serde_json.specs.Data.{Data, Items, no_items, item, array, object, member, no_members}
 use Rattle.serde_json.specs.Find.{get, as_str}

@@ -22,7 +22,8 @@ selected_status (Err e) = Refused
 
 -- the input was read to its end, and the key set of its document, or the line of its refusal, was written and nothing else
 abbrev pub Selected : Streams → Streams → Status → Type 0
-Selected before now status = IfSome before.left (λ json. IsAtEnd now.left × (selected_status (document_of json) ≡ status) × Appends before.written now.written (selected_text (document_of json)))
+Selected before now status = IfSome before.left (λ json. IsAtEnd now.left × (selected_status (document_of json) ≡ status)
+    × Appends before.written now.written (selected_text (document_of json)))
 
 -- a first part of that was written
 abbrev pub PartlySelected : Streams → Streams → Type 0

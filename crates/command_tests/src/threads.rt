@@ -1,4 +1,5 @@
-//! That the workers run beside each other, and look at the source after its first update. Each gate holds a worker for at most so many turns of one atomic load, and counts where they were used up.
+//! That the workers run beside each other, and look at the source after its first update. Each gate holds a worker for
+//! at most so many turns of one atomic load, and counts where they were used up.
 use command_line::Status;
 use identity_io::{MemorySink, MemorySource};
 use std::sync::atomic::{AtomicU64, Ordering};

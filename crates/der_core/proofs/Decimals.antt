@@ -1,5 +1,6 @@
 -- Decimal numbers without leading zeros.
-use Rattle.std.proofs.Common.{◌≡◌, ℕ, suc, ◌+◌, ◌-◌, ◌*◌, ◌/◌, ◌%◌, ◌^◌, ◌<◌, ◌≤◌, List, [], ◌∷◌, ◌++◌, length, get_or, drop, drop-cons, cond, ltb, Option, Some, None, refl, ap, sym, ◌∙◌, inl, inr, arith, add-one, append_assoc}
+use Rattle.std.proofs.Common.{◌≡◌, ℕ, suc, ◌+◌, ◌-◌, ◌*◌, ◌/◌, ◌%◌, ◌^◌, ◌<◌, ◌≤◌, List, [], ◌∷◌, ◌++◌, length, get_or, drop, drop-cons, cond, ltb, Option}
+use Rattle.std.proofs.Common.{Some, None, refl, ap, sym, ◌∙◌, inl, inr, arith, add-one, append_assoc}
 use Rattle.std.proofs.lemmas.Bool.{lt-ltb, le-ltb, ltb-true, ltb-false, cases_lt}
 use Rattle.std.proofs.lemmas.Option.{same_Some, none-some}
 use Rattle.std.proofs.lemmas.List.{drop_all}
@@ -79,7 +80,8 @@ found_behind m (d ∷ s) f low fits e =
     let up : n / 10 ≡ m = omega arith in
     let digit : 48 + n % 10 ≡ d = omega arith in
     let wide : n < 2 ^ 64 = omega arith in
-    let step : decimal n ≡ decimal m ++ d ∷ [] = decimal_step n ten wide ∙ ap (λ (k : ℕ). decimal k ++ (48 + n % 10) ∷ []) up ∙ ap (λ (k : ℕ). decimal m ++ k ∷ []) digit in
+    let step : decimal n ≡ decimal m ++ d ∷ [] = decimal_step n ten wide ∙ ap (λ (k : ℕ). decimal k ++ (48 + n % 10) ∷ []) up
+    ∙ ap (λ (k : ℕ). decimal m ++ k ∷ []) digit in
     let more = found_behind n s f (omega arith) next e in
     record { is = sym (append_assoc (decimal m) (d ∷ []) s) ∙ ap (λ (x : List ℕ). x ++ s) (sym step) ∙ more.is; small = more.small; ended = more.ended })
     (λ _ e. cc)))
@@ -92,7 +94,8 @@ digits_found (d ∷ s) f low high e =
     let l : 48 ≤ d = omega arith in
     let n : 0 * 10 + (d - 48) < 2 ^ 32 = omega arith in
     let z : 0 * 10 + (d - 48) ≡ d - 48 = omega arith in
-    let e' : digits_from (d - 48) s ≡ Some f = sym (rw (le-ltb d 48 l, le-ltb 57 d high, lt-ltb (0 * 10 + (d - 48)) (2 ^ 32) n) (ap (λ (k : ℕ). digits_from k s) z)) ∙ e in
+    let e' : digits_from (d - 48) s ≡ Some f = sym (rw (le-ltb d 48 l, le-ltb 57 d high, lt-ltb (0 * 10 + (d - 48)) (2 ^ 32) n)
+    (ap (λ (k : ℕ). digits_from k s) z)) ∙ e in
     let one : decimal (d - 48) ≡ d ∷ [] = decimal_digit (d - 48) (omega arith) ∙ ap (λ (k : ℕ). k ∷ []) (omega arith) in
     let more = found_behind (d - 48) s f (omega arith) (omega arith) e' in
     record { is = ap (λ (x : List ℕ). x ++ s) (sym one) ∙ more.is; small = more.small; ended = more.ended }
@@ -108,7 +111,8 @@ decimal_head =
     (λ n h. (omega arith, omega arith, omega arith))
     (λ n ds h more. head_kept ds ((48 + n % 10) ∷ []) more)
   where
-    head_kept : (ds xs : List ℕ) → (48 ≤ get_or ds 0 0) × (get_or ds 0 0 ≤ 57) × (0 < length ds) → (48 ≤ get_or (ds ++ xs) 0 0) × (get_or (ds ++ xs) 0 0 ≤ 57) × (0 < length (ds ++ xs))
+    head_kept : (ds xs : List ℕ) → (48 ≤ get_or ds 0 0) × (get_or ds 0 0 ≤ 57) × (0 < length ds) → (48 ≤ get_or (ds ++ xs) 0 0)
+        × (get_or (ds ++ xs) 0 0 ≤ 57) × (0 < length (ds ++ xs))
     head_kept [] xs h = absurd (omega arith)
     head_kept (d ∷ ds) xs h = (h.0, h.1, omega arith)
 
@@ -117,7 +121,8 @@ front_head : (xs ys : List ℕ) → 0 < length xs → get_or (xs ++ ys) 0 0 ≡ 
 front_head [] ys h = absurd (omega arith)
 front_head (x ∷ xs) ys h = refl
 
-pub number_head : (s : List ℕ) → (48 ≤ get_or s 0 0 → get_or s 0 0 ≤ 57 → ⊥) → (n : ℕ) (rest : List ℕ) → n < 2 ^ 32 → EndsDigits rest → s ≡ decimal n ++ rest → ⊥
+pub number_head : (s : List ℕ) → (48 ≤ get_or s 0 0 → get_or s 0 0 ≤ 57 → ⊥) → (n : ℕ) (rest : List ℕ) → n < 2 ^ 32 → EndsDigits rest
+    → s ≡ decimal n ++ rest → ⊥
 number_head s other n rest small ends e =
     let h = decimal_head n (omega arith) in
     let same : get_or s 0 0 ≡ get_or (decimal n) 0 0 = ap (λ (x : List ℕ). get_or x 0 0) e ∙ front_head (decimal n) rest h.2 in
@@ -130,12 +135,14 @@ zero_rest s [] e = ap (λ (x : List ℕ). get_or x 1 0) e
 zero_rest s (d ∷ rest) e = ap (λ (x : List ℕ). get_or x 1 0) e
 
 -- A 0 with a digit behind it is no number.
-pub leading_zero : (s : List ℕ) → get_or s 0 0 ≡ 48 → 48 ≤ get_or s 1 0 → get_or s 1 0 ≤ 57 → (n : ℕ) (rest : List ℕ) → n < 2 ^ 32 → EndsDigits rest → s ≡ decimal n ++ rest → ⊥
+pub leading_zero : (s : List ℕ) → get_or s 0 0 ≡ 48 → 48 ≤ get_or s 1 0 → get_or s 1 0 ≤ 57 → (n : ℕ) (rest : List ℕ) → n < 2 ^ 32 → EndsDigits rest
+    → s ≡ decimal n ++ rest → ⊥
 leading_zero s first low high n rest small ends e =
     elim (cases_lt 0 n) [
       | inl h ↦
           let head : 48 < get_or (decimal n) 0 0 = first_decimal n h (omega arith) in
-          let same : get_or s 0 0 ≡ get_or (decimal n) 0 0 = ap (λ (x : List ℕ). get_or x 0 0) e ∙ front_head (decimal n) rest (decimal_head n (omega arith)).2 in
+          let same : get_or s 0 0 ≡ get_or (decimal n) 0 0 = ap (λ (x : List ℕ). get_or x 0 0) e
+          ∙ front_head (decimal n) rest (decimal_head n (omega arith)).2 in
           omega arith
       | inr h ↦
           let z : n ≡ 0 = omega arith in
@@ -160,13 +167,28 @@ pub digits_end_at : (n i : ℕ) (s : List ℕ) → i < length s → (48 ≤ get_
 digits_end_at n i s h other =
     rw (drop-cons s i 0) (digits_end n (get_or s i 0 ∷ drop (suc i) s) (record { no_digit = other }))
 
-pub digits_none_at : (n i : ℕ) (s : List ℕ) → i < length s → 48 ≤ get_or s i 0 → get_or s i 0 ≤ 57 → 2 ^ 32 ≤ n * 10 + (get_or s i 0 - 48) → digits_from n (drop i s) ≡ None
+pub digits_none_at : (n i : ℕ) (s : List ℕ) → i < length s → 48 ≤ get_or s i 0 → get_or s i 0 ≤ 57 → 2 ^ 32 ≤ n * 10 + (get_or s i 0 - 48)
+    → digits_from n (drop i s) ≡ None
 unfolding digits_from
-digits_none_at n i s h low high large = rw (drop-cons s i 0, le-ltb (get_or s i 0) 48 low, le-ltb 57 (get_or s i 0) high, le-ltb (n * 10 + (get_or s i 0 - 48)) (2 ^ 32) large) refl
+digits_none_at n i s h low high large = rw (
+  drop-cons s i 0,
+  le-ltb (get_or s i 0) 48 low,
+  le-ltb 57 (get_or s i 0) high,
+  le-ltb
+      (n * 10 + (get_or s i 0 - 48)) (2 ^ 32) large,
+) refl
 
-pub digits_more_at : (n i : ℕ) (s : List ℕ) → i < length s → 48 ≤ get_or s i 0 → get_or s i 0 ≤ 57 → n * 10 + (get_or s i 0 - 48) < 2 ^ 32 → digits_from n (drop i s) ≡ digits_from (n * 10 + (get_or s i 0 - 48)) (drop (i + 1) s)
+pub digits_more_at : (n i : ℕ) (s : List ℕ) → i < length s → 48 ≤ get_or s i 0 → get_or s i 0 ≤ 57 → n * 10 + (get_or s i 0 - 48) < 2 ^ 32
+    → digits_from n (drop i s) ≡ digits_from (n * 10 + (get_or s i 0 - 48)) (drop (i + 1) s)
 unfolding digits_from
-digits_more_at n i s h low high fits = rw (add-one, drop-cons s i 0, le-ltb (get_or s i 0) 48 low, le-ltb 57 (get_or s i 0) high, lt-ltb (n * 10 + (get_or s i 0 - 48)) (2 ^ 32) fits) refl
+digits_more_at n i s h low high fits = rw (
+  add-one,
+  drop-cons s i 0,
+  le-ltb (get_or s i 0) 48 low,
+  le-ltb 57 (get_or s i 0) high,
+  lt-ltb
+      (n * 10 + (get_or s i 0 - 48)) (2 ^ 32) fits,
+) refl
 
 pub digits_all_at : (n i : ℕ) (s : List ℕ) → length s ≤ i → digits_from n (drop i s) ≡ Some (n, [])
 unfolding digits_from

@@ -1,5 +1,6 @@
 -- Lists of subidentifiers.
-use Rattle.std.proofs.Common.{◌≡◌, ℕ, suc, ◌^◌, ◌<◌, List, [], ◌∷◌, ◌++◌, length, refl, ap, sym, subst, ◌∙◌, arith, ◌↔◌, append-nil, map, length-append, Option, None, option_to_list}
+use Rattle.std.proofs.Common.{◌≡◌, ℕ, suc, ◌^◌, ◌<◌, List, [], ◌∷◌, ◌++◌, length, refl, ap, sym, subst, ◌∙◌, arith, ◌↔◌, append-nil, map, length-append}
+use Rattle.std.proofs.Common.{Option, None, option_to_list}
 use Rattle.std.proofs.lemmas.List.{append_cancel_left}
 use Rattle.std.proofs.lemmas.List.Elements.{All-cons, All-nil}
 use Rattle.std.specs.List.{All, flat_map, join_with_byte}
@@ -19,7 +20,8 @@ more_of n rest small a =
     let e = numbers_again n rest small in
     let all = subst (All (λ n. n < 2 ^ 32)) e a.small in
     record {
-      spelt = append_cancel_left (subidentifier_bytes n) rest (flat_map subidentifier_bytes (subidentifiers rest)) (a.spelt ∙ ap (λ (ns : List ℕ). flat_map subidentifier_bytes ns) e);
+      spelt = append_cancel_left (subidentifier_bytes n) rest (flat_map subidentifier_bytes (subidentifiers rest))
+          (a.spelt ∙ ap (λ (ns : List ℕ). flat_map subidentifier_bytes ns) e);
       small = All-tail (λ n. n < 2 ^ 32) n (subidentifiers rest) all;
     }
 
@@ -40,7 +42,8 @@ are_empty [] e = record { spelt = refl; small = All-nil (λ n. n < 2 ^ 32) }
 are_empty (x ∷ s) e = absurd (omega arith)
 
 -- Bytes that begin with no subidentifier are not made of them.
-none_of : (s ns : List ℕ) → 0 < length s → ((n : ℕ) (rest : List ℕ) → n < 2 ^ 32 → s ≡ subidentifier_bytes n ++ rest → ⊥) → s ≡ flat_map subidentifier_bytes ns → All (λ n. n < 2 ^ 32) ns → ⊥
+none_of : (s ns : List ℕ) → 0 < length s → ((n : ℕ) (rest : List ℕ) → n < 2 ^ 32 → s ≡ subidentifier_bytes n ++ rest → ⊥)
+    → s ≡ flat_map subidentifier_bytes ns → All (λ n. n < 2 ^ 32) ns → ⊥
 none_of s [] some none e all = let z : length s ≡ 0 = ap length e in omega arith
 none_of s (n ∷ ns) some none e all = none n (flat_map subidentifier_bytes ns) (All-head (λ n. n < 2 ^ 32) n ns all) e
 
@@ -60,10 +63,12 @@ unfolding numbers_from
 numbers_end [] a none = refl
 numbers_end (x ∷ s) a none = absurd (are_none (x ∷ s) (omega arith) none a)
 
-pub steps_end : (f g : Option ℕ) (s : List ℕ) → f ≡ None → g ≡ None → AreSubidentifiers s → ((n : ℕ) (rest : List ℕ) → n < 2 ^ 32 → s ≡ subidentifier_bytes n ++ rest → ⊥) → option_to_list f ++ (option_to_list g ++ subidentifiers s) ≡ []
+pub steps_end : (f g : Option ℕ) (s : List ℕ) → f ≡ None → g ≡ None → AreSubidentifiers s
+    → ((n : ℕ) (rest : List ℕ) → n < 2 ^ 32 → s ≡ subidentifier_bytes n ++ rest → ⊥) → option_to_list f ++ (option_to_list g ++ subidentifiers s) ≡ []
 steps_end f g s is_f is_g a none = rw (is_f, is_g) (numbers_end s a none)
 
-pub steps_more : (f g : Option ℕ) (n : ℕ) (s rest : List ℕ) → f ≡ None → g ≡ None → n < 2 ^ 32 → s ≡ subidentifier_bytes n ++ rest → option_to_list f ++ (option_to_list g ++ subidentifiers s) ≡ n ∷ (option_to_list f ++ (option_to_list g ++ subidentifiers rest))
+pub steps_more : (f g : Option ℕ) (n : ℕ) (s rest : List ℕ) → f ≡ None → g ≡ None → n < 2 ^ 32 → s ≡ subidentifier_bytes n ++ rest
+    → option_to_list f ++ (option_to_list g ++ subidentifiers s) ≡ n ∷ (option_to_list f ++ (option_to_list g ++ subidentifiers rest))
 steps_more f g n s rest is_f is_g small e = rw (is_f, is_g) (numbers_of n s rest small e)
 
 -- The text of arcs: the first, and each other one behind a dot.
@@ -75,6 +80,7 @@ pub map_same : (ns : List ℕ) → map (λ (n : ℕ). n) ns ≡ ns
 map_same [] = refl
 map_same (n ∷ ns) = ap (λ (xs : List ℕ). n ∷ xs) (map_same ns)
 
-pub arcs_text : (n : ℕ) (given left arcs : List ℕ) → map (λ (n : ℕ). n) given ≡ left → arcs ≡ n ∷ left → decimal n ++ flat_map (λ (n : ℕ). 46 ∷ decimal n) given ≡ join_with_byte 46 (map decimal arcs)
+pub arcs_text : (n : ℕ) (given left arcs : List ℕ) → map (λ (n : ℕ). n) given ≡ left → arcs ≡ n ∷ left
+    → decimal n ++ flat_map (λ (n : ℕ). 46 ∷ decimal n) given ≡ join_with_byte 46 (map decimal arcs)
 arcs_text n given left arcs all e =
     dotted n given ∙ ap (λ (ns : List ℕ). join_with_byte 46 (map decimal ns)) (ap (λ (ns : List ℕ). n ∷ ns) (sym (map_same given) ∙ all) ∙ sym e)

@@ -1,5 +1,6 @@
 -- What is read from the spelling of a subidentifier, and what was read is that spelling.
-use Rattle.std.proofs.Common.{◌≡◌, ℕ, ◌+◌, ◌*◌, ◌/◌, ◌%◌, ◌^◌, ◌<◌, ◌≤◌, List, [], ◌∷◌, ◌++◌, length, get_or, cond, ltb, Option, Some, None, refl, ap, sym, ◌∙◌, inl, inr, arith, add-one, append_assoc, drop, drop-cons, length-append}
+use Rattle.std.proofs.Common.{◌≡◌, ℕ, ◌+◌, ◌*◌, ◌/◌, ◌%◌, ◌^◌, ◌<◌, ◌≤◌, List, [], ◌∷◌, ◌++◌, length, get_or, cond, ltb, Option, Some, None, refl, ap, sym}
+use Rattle.std.proofs.Common.{◌∙◌, inl, inr, arith, add-one, append_assoc, drop, drop-cons, length-append}
 use Rattle.std.proofs.lemmas.Bool.{lt-ltb, le-ltb, ltb-true, ltb-false, cases_lt}
 use Rattle.std.proofs.lemmas.Option.{same_Some, none-some}
 use Rattle.std.proofs.lemmas.List.{drop_all, nil_from_length}
@@ -100,7 +101,8 @@ numbers_low a d rest small =
     rw (e, lt-ltb d 128 small) refl
 
 -- What high bytes are read as, by a reader of either kind.
-high_read : {X : Type 0} (read : ℕ → List ℕ → X) → ((a d : ℕ) (rest : List ℕ) → d < 128 → a * 128 + d < 2 ^ 32 → read a ((128 + d) ∷ rest) ≡ read (a * 128 + d) rest) → (m : ℕ) (rest : List ℕ) → m < 33554432 → read 0 (high_bytes m ++ rest) ≡ read m rest
+high_read : {X : Type 0} (read : ℕ → List ℕ → X) → ((a d : ℕ) (rest : List ℕ) → d < 128 → a * 128 + d < 2 ^ 32
+    → read a ((128 + d) ∷ rest) ≡ read (a * 128 + d) rest) → (m : ℕ) (rest : List ℕ) → m < 33554432 → read 0 (high_bytes m ++ rest) ≡ read m rest
 high_read read step m rest fits =
     elim (cases_lt m 128) [
       | inl s ↦ rw (high_bytes_1 m s) (step 0 m rest s (omega arith) ∙ ap (λ (n : ℕ). read n rest) (omega arith))
@@ -142,7 +144,10 @@ split_number : (n : ℕ) → n ≡ (n / 128) * 128 + n % 128
 split_number n = omega arith
 
 -- What is read from a subidentifier's bytes, by a reader of either kind.
-subidentifier_read : {X : Type 0} (read : ℕ → List ℕ → X) (answer : ℕ → List ℕ → X) → ((a d : ℕ) (rest : List ℕ) → d < 128 → a * 128 + d < 2 ^ 32 → read a ((128 + d) ∷ rest) ≡ read (a * 128 + d) rest) → ((a d : ℕ) (rest : List ℕ) → d < 128 → a * 128 + d < 2 ^ 32 → read a (d ∷ rest) ≡ answer (a * 128 + d) rest) → (n : ℕ) (rest : List ℕ) → n < 2 ^ 32 → read 0 (subidentifier_bytes n ++ rest) ≡ answer n rest
+subidentifier_read : {X : Type 0} (read : ℕ → List ℕ → X) (answer : ℕ → List ℕ → X)
+    → ((a d : ℕ) (rest : List ℕ) → d < 128 → a * 128 + d < 2 ^ 32 → read a ((128 + d) ∷ rest) ≡ read (a * 128 + d) rest)
+    → ((a d : ℕ) (rest : List ℕ) → d < 128 → a * 128 + d < 2 ^ 32 → read a (d ∷ rest) ≡ answer (a * 128 + d) rest) → (n : ℕ) (rest : List ℕ) → n < 2 ^ 32
+    → read 0 (subidentifier_bytes n ++ rest) ≡ answer n rest
 subidentifier_read read answer step last n rest fits =
     elim (cases_lt n 128) [
       | inl s ↦ rw (subidentifier_small n s) (last 0 n rest s (omega arith) ∙ ap (λ (k : ℕ). answer k rest) (omega arith))
@@ -165,7 +170,8 @@ read_from_again n rest fits = subidentifier_read read_from (λ n rest. Some (n, 
 
 pub numbers_again : (n : ℕ) (rest : List ℕ) → n < 2 ^ 32 → numbers_from 0 (subidentifier_bytes n ++ rest) ≡ n ∷ numbers_from 0 rest
 numbers_again n rest fits =
-    subidentifier_read numbers_from (λ n rest. n ∷ numbers_from 0 rest) (λ a d rest small _. numbers_high a d rest small) (λ a d rest small _. numbers_low a d rest small) n rest fits
+    subidentifier_read numbers_from (λ n rest. n ∷ numbers_from 0 rest) (λ a d rest small _. numbers_high a d rest small)
+    (λ a d rest small _. numbers_low a d rest small) n rest fits
 
 -- A number too large for one more byte is read as none.
 read_from_small : (a : ℕ) (s : List ℕ) (f : ℕ × List ℕ) → read_from a s ≡ Some f → a < 33554432
@@ -177,7 +183,8 @@ read_from_small a (b ∷ s) f e =
     (λ _ h. cc)
 
 -- What was read, after high bytes that stand for `a`.
-found_from : (a : ℕ) (s : List ℕ) (f : ℕ × List ℕ) → IsBytes s → 1 ≤ a → read_from a s ≡ Some f → (high_bytes a ++ s ≡ subidentifier_bytes f.0 ++ f.1) × (f.0 < 2 ^ 32)
+found_from : (a : ℕ) (s : List ℕ) (f : ℕ × List ℕ) → IsBytes s → 1 ≤ a → read_from a s ≡ Some f → (high_bytes a ++ s ≡ subidentifier_bytes f.0 ++ f.1)
+    × (f.0 < 2 ^ 32)
 unfolding read_from IsBytes
 found_from a [] f b low e = cc
 found_from a (byte ∷ s) f b low e =
@@ -191,17 +198,25 @@ found_from a (byte ∷ s) f b low e =
     (λ h e.
     let low_byte : byte < 128 = ltb-true byte 128 h in
     let same : byte ≡ d = omega arith in
-    rw (← same_Some _ f e) (ap (λ (x : ℕ). high_bytes a ++ x ∷ s) same ∙ sym (append_assoc (high_bytes a) (d ∷ []) s) ∙ ap (λ (x : List ℕ). x ++ s) (sym (subidentifier_large a d low small)), fits))
+    rw (← same_Some _ f e) (
+      ap (λ (x : ℕ). high_bytes a ++ x ∷ s) same ∙ sym (append_assoc (high_bytes a) (d ∷ []) s)
+          ∙ ap (λ (x : List ℕ). x ++ s) (sym (subidentifier_large a d low small)),
+      fits,
+    ))
     (λ h e.
     let high_byte : 128 ≤ byte = ltb-false byte 128 h in
     let same : byte ≡ 128 + d = omega arith in
     let next : a * 128 + d < 33554432 = read_from_small (a * 128 + d) s f e in
-    let more = found_from (a * 128 + d) s f (IsBytes_tail byte s b) (omega arith) e in
-    (ap (λ (x : ℕ). high_bytes a ++ x ∷ s) same ∙ sym (append_assoc (high_bytes a) ((128 + d) ∷ []) s) ∙ ap (λ (x : List ℕ). x ++ s) (sym (high_bytes_step a d low (omega arith) small)) ∙ more.0, more.1)))
+    let more = found_from (a * 128 + d) s f (IsBytes_tail byte s b) (omega arith) e in (
+      ap (λ (x : ℕ). high_bytes a ++ x ∷ s) same ∙ sym (append_assoc (high_bytes a) ((128 + d) ∷ []) s)
+          ∙ ap (λ (x : List ℕ). x ++ s) (sym (high_bytes_step a d low (omega arith) small)) ∙ more.0,
+      more.1,
+    )))
     (λ _ h. cc)
 
 -- What was read from bytes that begin with no 80.
-pub read_from_found : (byte : ℕ) (s : List ℕ) (f : ℕ × List ℕ) → IsBytes (byte ∷ s) → (byte ≡ 128 → ⊥) → read_from 0 (byte ∷ s) ≡ Some f → (byte ∷ s ≡ subidentifier_bytes f.0 ++ f.1) × (f.0 < 2 ^ 32)
+pub read_from_found : (byte : ℕ) (s : List ℕ) (f : ℕ × List ℕ) → IsBytes (byte ∷ s) → (byte ≡ 128 → ⊥) → read_from 0 (byte ∷ s) ≡ Some f
+    → (byte ∷ s ≡ subidentifier_bytes f.0 ++ f.1) × (f.0 < 2 ^ 32)
 unfolding read_from IsBytes
 read_from_found byte s f b not_zero e =
     let d : ℕ = byte % 128 in
@@ -247,11 +262,13 @@ subidentifier_head n rest =
           let one : 1 ≤ n / 128 = omega arith in
           let small : n % 128 < 128 = omega arith in
           let bytes : subidentifier_bytes n ++ rest ≡ high_bytes (n / 128) ++ (n % 128 ∷ rest) =
-          ap (λ (k : ℕ). subidentifier_bytes k ++ rest) (split_number n) ∙ ap (λ (s : List ℕ). s ++ rest) (subidentifier_large (n / 128) (n % 128) one small) ∙ append_assoc (high_bytes (n / 128)) (n % 128 ∷ []) rest in
+          ap (λ (k : ℕ). subidentifier_bytes k ++ rest) (split_number n)
+          ∙ ap (λ (s : List ℕ). s ++ rest) (subidentifier_large (n / 128) (n % 128) one small) ∙ append_assoc (high_bytes (n / 128)) (n % 128 ∷ []) rest in
           rw bytes (high_bytes_head (n / 128) (n % 128 ∷ rest) one)
     ]
 
-pub read_front : (s : List ℕ) (f : ℕ × List ℕ) → IsBytes s → (get_or s 0 0 ≡ 128 → ⊥) → read_from 0 s ≡ Some f → (s ≡ subidentifier_bytes f.0 ++ f.1) × (f.0 < 2 ^ 32)
+pub read_front : (s : List ℕ) (f : ℕ × List ℕ) → IsBytes s → (get_or s 0 0 ≡ 128 → ⊥) → read_from 0 s ≡ Some f → (s ≡ subidentifier_bytes f.0 ++ f.1)
+    × (f.0 < 2 ^ 32)
 unfolding read_from
 read_front [] f b head e = cc
 read_front (byte ∷ s) f b head e = read_from_found byte s f b head e
@@ -261,11 +278,13 @@ pub read_none_at : (a i : ℕ) (s : List ℕ) → i < length s → 2 ^ 32 ≤ a 
 unfolding read_from
 read_none_at a i s h large = rw (drop-cons s i 0, le-ltb (a * 128 + get_or s i 0 % 128) (2 ^ 32) large) refl
 
-pub read_some_at : (a i : ℕ) (s : List ℕ) → i < length s → a * 128 + get_or s i 0 % 128 < 2 ^ 32 → get_or s i 0 < 128 → read_from a (drop i s) ≡ Some (a * 128 + get_or s i 0 % 128, drop (i + 1) s)
+pub read_some_at : (a i : ℕ) (s : List ℕ) → i < length s → a * 128 + get_or s i 0 % 128 < 2 ^ 32 → get_or s i 0 < 128
+    → read_from a (drop i s) ≡ Some (a * 128 + get_or s i 0 % 128, drop (i + 1) s)
 unfolding read_from
 read_some_at a i s h fits low = rw (add-one, drop-cons s i 0, lt-ltb (a * 128 + get_or s i 0 % 128) (2 ^ 32) fits, lt-ltb (get_or s i 0) 128 low) refl
 
-pub read_more_at : (a i : ℕ) (s : List ℕ) → i < length s → a * 128 + get_or s i 0 % 128 < 2 ^ 32 → 128 ≤ get_or s i 0 → read_from a (drop i s) ≡ read_from (a * 128 + get_or s i 0 % 128) (drop (i + 1) s)
+pub read_more_at : (a i : ℕ) (s : List ℕ) → i < length s → a * 128 + get_or s i 0 % 128 < 2 ^ 32 → 128 ≤ get_or s i 0
+    → read_from a (drop i s) ≡ read_from (a * 128 + get_or s i 0 % 128) (drop (i + 1) s)
 unfolding read_from
 read_more_at a i s h fits high = rw (add-one, drop-cons s i 0, lt-ltb (a * 128 + get_or s i 0 % 128) (2 ^ 32) fits, le-ltb (get_or s i 0) 128 high) refl
 
@@ -291,7 +310,8 @@ some_bytes n =
       | inr h ↦
           let one : 1 ≤ n / 128 = omega arith in
           let small : n % 128 < 128 = omega arith in
-          rw (ap subidentifier_bytes (split_number n), subidentifier_large (n / 128) (n % 128) one small) (omega (arith, length-append (high_bytes (n / 128)) (n % 128 ∷ [])))
+          rw (ap subidentifier_bytes (split_number n), subidentifier_large (n / 128) (n % 128) one small)
+          (omega (arith, length-append (high_bytes (n / 128)) (n % 128 ∷ [])))
     ]
 
 -- The bytes of a subidentifier, by their number.
@@ -316,16 +336,20 @@ spelling_3 n h s =
     let e : n / 128 / 128 ≡ n / 16384 % 128 = omega arith in
     high_of n a ∙ ap (λ (x : List ℕ). x ++ n % 128 ∷ []) (high_bytes_2 (n / 128) low high ∙ ap (λ (x : ℕ). (128 + x) ∷ (128 + n / 128 % 128) ∷ []) e)
 
-pub spelling_4 : (n : ℕ) → 2097152 ≤ n → n < 268435456 → subidentifier_bytes n ≡ (128 + n / 2097152 % 128) ∷ (128 + n / 16384 % 128) ∷ (128 + n / 128 % 128) ∷ n % 128 ∷ []
+pub spelling_4 : (n : ℕ) → 2097152 ≤ n → n < 268435456 → subidentifier_bytes n ≡ (128 + n / 2097152 % 128) ∷ (128 + n / 16384 % 128) ∷ (128 + n / 128 % 128)
+    ∷ n % 128 ∷ []
 spelling_4 n h s =
     let a : 128 ≤ n = omega arith in
     let low : 16384 ≤ n / 128 = omega arith in
     let high : n / 128 < 2097152 = omega arith in
     let e : n / 128 / 16384 ≡ n / 2097152 % 128 = omega arith in
     let f : n / 128 / 128 % 128 ≡ n / 16384 % 128 = omega arith in
-    high_of n a ∙ ap (λ (x : List ℕ). x ++ n % 128 ∷ []) (high_bytes_3 (n / 128) low high ∙ ap (λ (x : ℕ). (128 + x) ∷ (128 + n / 128 / 128 % 128) ∷ (128 + n / 128 % 128) ∷ []) e ∙ ap (λ (x : ℕ). (128 + n / 2097152 % 128) ∷ (128 + x) ∷ (128 + n / 128 % 128) ∷ []) f)
+    high_of n a ∙ ap (λ (x : List ℕ). x ++ n % 128 ∷ []) (high_bytes_3 (n / 128) low high
+    ∙ ap (λ (x : ℕ). (128 + x) ∷ (128 + n / 128 / 128 % 128) ∷ (128 + n / 128 % 128) ∷ []) e
+    ∙ ap (λ (x : ℕ). (128 + n / 2097152 % 128) ∷ (128 + x) ∷ (128 + n / 128 % 128) ∷ []) f)
 
-pub spelling_5 : (n : ℕ) → 268435456 ≤ n → subidentifier_bytes n ≡ (128 + n / 268435456) ∷ (128 + n / 2097152 % 128) ∷ (128 + n / 16384 % 128) ∷ (128 + n / 128 % 128) ∷ n % 128 ∷ []
+pub spelling_5 : (n : ℕ) → 268435456 ≤ n → subidentifier_bytes n ≡ (128 + n / 268435456) ∷ (128 + n / 2097152 % 128) ∷ (128 + n / 16384 % 128)
+    ∷ (128 + n / 128 % 128) ∷ n % 128 ∷ []
 spelling_5 n h =
     let a : 128 ≤ n = omega arith in
     let low : 2097152 ≤ n / 128 = omega arith in

@@ -14,7 +14,9 @@ pub record AtFront {V : Type 0} (tag : ℕ) (content : List ℕ) (fixed : ℕ) (
   pub has : HasContent content v
 
 -- Where a value stands at the front, a value of a fixed tag that stands there is that one.
-pub at_front : {V : Type 0} (HasContent : List ℕ → V → Type 0) (fixed tag : ℕ) (s content rest : List ℕ) → IsTag tag → IsTag fixed → (s ≡ encode tag content ++ rest) × (length (encode tag content) < 2 ^ 32) → (b rest' : List ℕ) (v : V) → ReadsTagged fixed HasContent b v → s ≡ b ++ rest' → AtFront tag content fixed HasContent v
+pub at_front : {V : Type 0} (HasContent : List ℕ → V → Type 0) (fixed tag : ℕ) (s content rest : List ℕ) → IsTag tag → IsTag fixed
+    → (s ≡ encode tag content ++ rest) × (length (encode tag content) < 2 ^ 32) → (b rest' : List ℕ) (v : V) → ReadsTagged fixed HasContent b v
+    → s ≡ b ++ rest' → AtFront tag content fixed HasContent v
 at_front H fixed tag s content rest t t' found b rest' v r e =
     let fits : length (encode fixed r.content) < 2 ^ 32 = rw (← r.is) r.fits in
     let whole : encode tag content ++ rest ≡ encode fixed r.content ++ rest' = sym found.0 ∙ e ∙ ap (λ (x : List ℕ). x ++ rest') r.is in

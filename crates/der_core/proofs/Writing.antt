@@ -16,7 +16,9 @@ too_long tag content h =
     let five : length (length_bytes (length content)) ≡ 5 = (header_length (length content)).1 big in
     omega arith
 
-pub encoded_len_of : (tag : ℕ) (content : List ℕ) (n : ℕ) (r : Result ℕ Error) → n ≡ length content → MatchResult r (λ k. (k ≡ 1 + length (length_bytes n) + n) × (n < 4294967290)) (λ e. (e ≡ error.Overlength) × (4294967290 ≤ n)) → LengthOf (encode tag content) r
+pub encoded_len_of : (tag : ℕ) (content : List ℕ) (n : ℕ) (r : Result ℕ Error) → n ≡ length content
+    → MatchResult r (λ k. (k ≡ 1 + length (length_bytes n) + n) × (n < 4294967290)) (λ e. (e ≡ error.Overlength) × (4294967290 ≤ n))
+    → LengthOf (encode tag content) r
 encoded_len_of tag content n (Ok k) e h =
     let len = length_encode tag content in
     let header = (header_length (length content)).0 in
@@ -35,7 +37,10 @@ pub small_len : (tag : ℕ) (content : List ℕ) (n : ℕ) → n ≡ length cont
 small_len tag content n e h = small_fits tag content (omega arith)
 
 -- A header and then the content are the value.
-pub wrote_value : {W X : Type 0} (HasTold : W → List ℕ → Type 0) (refusals : W → ℕ) (last_refusal : W → Option Error) (old mid new : W) (tag : ℕ) (content header : List ℕ) (r : Result X Error) → header ≡ tag ∷ [] ++ length_bytes (length content) → ((m : List ℕ) → HasTold old m → HasTold mid (m ++ header)) → refusals old ≤ refusals mid → length (encode tag content) < 2 ^ 32 → Wrote HasTold refusals last_refusal mid new content r → Wrote HasTold refusals last_refusal old new (encode tag content) r
+pub wrote_value : {W X : Type 0} (HasTold : W → List ℕ → Type 0) (refusals : W → ℕ) (last_refusal : W → Option Error) (old mid new : W) (tag : ℕ)
+    (content header : List ℕ) (r : Result X Error) → header ≡ tag ∷ [] ++ length_bytes (length content)
+    → ((m : List ℕ) → HasTold old m → HasTold mid (m ++ header)) → refusals old ≤ refusals mid → length (encode tag content) < 2 ^ 32
+    → Wrote HasTold refusals last_refusal mid new content r → Wrote HasTold refusals last_refusal old new (encode tag content) r
 wrote_value H n last old mid new tag content header r is first count fits w =
     let parts : encode tag content ≡ header ++ content = encode_parts tag content ∙ ap (λ (x : List ℕ). x ++ content) (sym is) in
     let fits' : length (header ++ content) < 2 ^ 32 = rw (← parts) fits in

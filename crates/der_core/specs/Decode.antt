@@ -40,7 +40,8 @@ pub record ReadsTagged {V : Type 0} (tag : ℕ) (HasContent : List ℕ → V →
   pub is : b ≡ encode tag content
   pub fits : length b < 2 ^ 32
 
-pub ReadsTagged-one_value : {V : Type 0} (tag : ℕ) (HasContent : List ℕ → V → Type 0) (b : List ℕ) (v : V) → IsTag tag → ReadsTagged tag HasContent b v → IsValue b
+pub ReadsTagged-one_value : {V : Type 0} (tag : ℕ) (HasContent : List ℕ → V → Type 0) (b : List ℕ) (v : V) → IsTag tag → ReadsTagged tag HasContent b v
+    → IsValue b
 ReadsTagged-one_value tag H b v t r = record { tag = tag; content = r.content; tag_ok = t; is = r.is; fits = r.fits }
 
 pub record ReadsAny (b : List ℕ) (tag : ℕ) (content : List ℕ) : Type 0 where

@@ -18,8 +18,10 @@ pub record Refused {W : Type 0} (refusals : W → ℕ) (last_refusal : W → Opt
   pub rose : Rose (refusals old) (refusals new)
   pub last : last_refusal new ≡ Some e
 
--- The bytes were written whole; or they are too long; or the writer refused, and its refusal is the answer. After an error the writer was given a first part of them.
-pub record Wrote {W X : Type 0} (HasTold : W → List ℕ → Type 0) (refusals : W → ℕ) (last_refusal : W → Option Error) (old new : W) (bytes : List ℕ) (r : Result X Error) : Type 0 where
+-- The bytes were written whole; or they are too long; or the writer refused, and its refusal is the answer. After an error the writer was given a
+-- first part of them.
+pub record Wrote {W X : Type 0} (HasTold : W → List ℕ → Type 0) (refusals : W → ℕ) (last_refusal : W → Option Error) (old new : W) (bytes : List ℕ)
+    (r : Result X Error) : Type 0 where
   pub ok : OnOk r ((length bytes < 2 ^ 32) × ((m : List ℕ) → HasTold old m → HasTold new (m ++ bytes)))
   pub err : IfErr r (λ e. ((2 ^ 32 ≤ length bytes) × (e ≡ error.Overlength)) ⊎ ((length bytes < 2 ^ 32) × Refused refusals last_refusal old new e))
   pub part : OnErr r (GivenPart HasTold old new bytes)

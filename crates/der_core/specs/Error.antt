@@ -5,7 +5,8 @@ use Rattle.der_core.specs.Oid.{oid_text}
 use Rattle.der_core.specs.Tag.{byte_of}
 use Rattle.der_core.specs.ObjectIdentifier.{oid_content}
 use Rattle.der_core.specs.declared.error.Error.{Error}
-use Rattle.der_core.specs.declared.error.Error.TheVariants.{Malformed, TrailingData, TagUnexpected, Overlength, OidMalformed, OidUnknown, FileMissing, FileFault, FileTooLong, OutOfMemory}
+use Rattle.der_core.specs.declared.error.Error.TheVariants.{Malformed, TrailingData, TagUnexpected, Overlength, OidMalformed, OidUnknown, FileMissing}
+use Rattle.der_core.specs.declared.error.Error.TheVariants.{FileFault, FileTooLong, OutOfMemory}
 
 -- A byte as two upper-case hexadecimal digits.
 abbrev pub hex_text : ℕ → List ℕ

@@ -60,10 +60,11 @@ pub then_none : {V : Type 0} (Reads : List ℕ → V → Type 0) (Next : List �
 then_none Reads Next s v none t = none t.front t.rest v t.reads t.is
 
 -- What follows a field that was read as a value of any tag.
-pub record SameField {V : Type 0} (tag : ℕ) (content rest : List ℕ) (fixed : ℕ) (HasContent : List ℕ → V → Type 0) (Next : List ℕ → Type 0) (v : V) : Type 0 where
-  pub tag_is : tag ≡ fixed
-  pub has : HasContent content v
-  pub next : Next rest
+pub record SameField {V : Type 0} (tag : ℕ) (content rest : List ℕ) (fixed : ℕ) (HasContent : List ℕ → V → Type 0) (Next : List ℕ → Type 0) (v : V) : Type 0
+  where
+    pub tag_is : tag ≡ fixed
+    pub has : HasContent content v
+    pub next : Next rest
 
 -- The same of a field that was read as a value of any tag.
 pub field_same :
@@ -138,7 +139,8 @@ two_read RA RB ea eb la lb a b fits = record {
 }
 
 pub three_written :
-    {A B C : Type 0} (RA : List ℕ → A → Type 0) (RB : List ℕ → B → Type 0) (RC : List ℕ → C → Type 0) (encoding_a : A → List ℕ) (encoding_b : B → List ℕ) (encoding_c : C → List ℕ) →
+    {A B C : Type 0} (RA : List ℕ → A → Type 0) (RB : List ℕ → B → Type 0) (RC : List ℕ → C → Type 0) (encoding_a : A → List ℕ) (encoding_b : B → List ℕ)
+    (encoding_c : C → List ℕ) →
     AreWritten RA encoding_a → AreWritten RB encoding_b → AreWritten RC encoding_c →
     (bytes : List ℕ) (a : A) (b : B) (c : C) → ThreeFields RA RB RC bytes a b c →
     bytes ≡ encoding_a a ++ (encoding_b b ++ encoding_c c)
@@ -146,7 +148,8 @@ three_written RA RB RC ea eb ec la lb lc bytes a b c t =
     t.is ∙ ap (λ (x : List ℕ). x ++ t.rest) (la t.front a t.reads) ∙ ap (λ (x : List ℕ). ea a ++ x) (two_written RB RC eb ec lb lc t.rest b c t.next)
 
 pub three_read :
-    {A B C : Type 0} (RA : List ℕ → A → Type 0) (RB : List ℕ → B → Type 0) (RC : List ℕ → C → Type 0) (encoding_a : A → List ℕ) (encoding_b : B → List ℕ) (encoding_c : C → List ℕ) →
+    {A B C : Type 0} (RA : List ℕ → A → Type 0) (RB : List ℕ → B → Type 0) (RC : List ℕ → C → Type 0) (encoding_a : A → List ℕ) (encoding_b : B → List ℕ)
+    (encoding_c : C → List ℕ) →
     AreReadBack RA encoding_a → AreReadBack RB encoding_b → AreReadBack RC encoding_c → (a : A) (b : B) (c : C) →
     length (encoding_a a ++ (encoding_b b ++ encoding_c c)) < 2 ^ 32 →
     ThreeFields RA RB RC (encoding_a a ++ (encoding_b b ++ encoding_c c)) a b c

@@ -1,5 +1,6 @@
 -- The value at the front of bytes is one: what is read from an encoding, and what was read is an encoding.
-use Rattle.std.proofs.Common.{◌≡◌, ℕ, ◌%◌, ◌^◌, ◌<◌, ◌≤◌, List, [], ◌∷◌, ◌++◌, length, take, drop, true, ltb, Option, Some, None, refl, ap, sym, ◌∙◌, get_or, inl, inr, arith, length-append, IfSome, IfNone, option_map}
+use Rattle.std.proofs.Common.{◌≡◌, ℕ, ◌%◌, ◌^◌, ◌<◌, ◌≤◌, List, [], ◌∷◌, ◌++◌, length, take, drop, true, ltb, Option, Some, None, refl, ap, sym, ◌∙◌, get_or}
+use Rattle.std.proofs.Common.{inl, inr, arith, length-append, IfSome, IfNone, option_map}
 use Rattle.std.proofs.lemmas.Bool.{lt-ltb, le-ltb, ltb-true, ltb-false, cases_lt, and_parts, and_from}
 use Rattle.std.proofs.lemmas.Option.{same_Some, none-some}
 use Rattle.std.proofs.lemmas.List.{length-take-le, take-append-drop}
@@ -7,7 +8,8 @@ use Rattle.std.proofs.Math.Seq.{take-append_seam, drop-append_seam}
 use Rattle.der_core.specs.Der.{IsTag, IsValue, length_bytes, encode}
 use Rattle.der_core.specs.Laws.{encode_append, length_encode}
 use Rattle.der_core.specs.Header.{read_length, is_tag, content_at, read_value}
-use Rattle.der_core.specs.LengthLaws.{IsBytes, IsBytes_tail, Spells, branch, read_length_again, read_length_found, length_bytes_1, length_bytes_2, length_bytes_3, length_bytes_4, length_bytes_5}
+use Rattle.der_core.specs.LengthLaws.{IsBytes, IsBytes_tail, Spells, branch, read_length_again, read_length_found, length_bytes_1, length_bytes_2}
+use Rattle.der_core.specs.LengthLaws.{length_bytes_3, length_bytes_4, length_bytes_5}
 
 pub header_length : (n : ℕ) → (length (length_bytes n) ≤ 5) × (16777216 ≤ n → length (length_bytes n) ≡ 5)
 header_length n =
@@ -85,7 +87,11 @@ content_found tag after (Some l) f b t e h =
     let n : length (take l.0 l.1) ≡ l.0 = length-take-le l.0 l.1 le in
     let lt : l.0 < 4294967290 = ltb-true l.0 4294967290 small in
     let lt' : length (take l.0 l.1) < 4294967290 = omega arith in
-    rw (← same_Some _ f h) (rw (encode_append tag (take l.0 l.1) (drop l.0 l.1), n, take-append-drop l.0 l.1) (ap (λ (x : List ℕ). tag ∷ x) sp.0), t, small_fits tag (take l.0 l.1) lt')))
+    rw (← same_Some _ f h) (
+      rw (encode_append tag (take l.0 l.1) (drop l.0 l.1), n, take-append-drop l.0 l.1) (ap (λ (x : List ℕ). tag ∷ x) sp.0),
+      t,
+      small_fits tag (take l.0 l.1) lt',
+    )))
     (λ _ h. cc)
 
 first_small : (a : ℕ) (s : List ℕ) → IsBytes (a ∷ s) → a < 256
@@ -154,7 +160,8 @@ pub encode_same : (tag tag' : ℕ) (content content' : List ℕ) → length cont
 unfolding encode
 encode_same tag tag' content content' fits fits' e =
     let behind : length_bytes (length content) ++ content ≡ length_bytes (length content') ++ content' = ap (λ (s : List ℕ). drop 1 s) e in
-    let parts = same_Some _ _ (sym (read_length_again (length content) content fits) ∙ ap read_length behind ∙ read_length_again (length content') content' fits') in
+    let parts = same_Some _ _ (sym (read_length_again (length content) content fits) ∙ ap read_length behind
+    ∙ read_length_again (length content') content' fits') in
     (ap (λ (s : List ℕ). get_or s 0 0) e, ap (λ (p : ℕ × List ℕ). p.1) parts)
 
 -- Two values that begin the same bytes are one.

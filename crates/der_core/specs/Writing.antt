@@ -1,5 +1,6 @@
 -- What one write after another wrote.
-use Rattle.std.proofs.Common.{◌≡◌, ℕ, ◌^◌, ◌<◌, ◌≤◌, List, [], ◌++◌, length, Option, Result, Ok, Err, refl, sym, ap, ◌∙◌, inl, inr, arith, append_assoc, append-nil, length-append, IfErr, is_ok, if◌then◌else◌}
+use Rattle.std.proofs.Common.{◌≡◌, ℕ, ◌^◌, ◌<◌, ◌≤◌, List, [], ◌++◌, length, Option, Result, Ok, Err, refl, sym, ap, ◌∙◌, inl, inr, arith, append_assoc}
+use Rattle.std.proofs.Common.{append-nil, length-append, IfErr, is_ok, if◌then◌else◌}
 use Rattle.identity_io.specs.Causes.{Rose}
 use Rattle.der_core.specs.declared.error.Error.{Error}
 use Rattle.der_core.specs.declared.error.Error.TheVariants as error
@@ -36,7 +37,8 @@ rose_later before between now later rose = let r : Rose between now = rose in om
 
 -- What was written behind a slice is written with it.
 pub wrote_behind :
-    {W X : Type 0} {HasTold : W → List ℕ → Type 0} {refusals : W → ℕ} {last_refusal : W → Option Error} {old mid new : W} {b : List ℕ} {r : Result X Error} (a : List ℕ) →
+    {W X : Type 0} {HasTold : W → List ℕ → Type 0} {refusals : W → ℕ} {last_refusal : W → Option Error} {old mid new : W} {b : List ℕ} {r : Result X Error}
+    (a : List ℕ) →
     ((m : List ℕ) → HasTold old m → HasTold mid (m ++ a)) → refusals old ≤ refusals mid →
     Wrote HasTold refusals last_refusal mid new b r → length (a ++ b) < 2 ^ 32 →
     Wrote HasTold refusals last_refusal old new (a ++ b) r
@@ -56,7 +58,8 @@ wrote_behind {refusals = n} {old = old} {mid = mid} {new = new} {b = b} {r = Err
 
 -- A field, and what was written behind it, are written together.
 pub wrote_then :
-    {W X Y : Type 0} {HasTold : W → List ℕ → Type 0} {refusals : W → ℕ} {last_refusal : W → Option Error} {old mid new : W} {a b : List ℕ} {x : Y} {r : Result X Error} →
+    {W X Y : Type 0} {HasTold : W → List ℕ → Type 0} {refusals : W → ℕ} {last_refusal : W → Option Error} {old mid new : W} {a b : List ℕ} {x : Y}
+    {r : Result X Error} →
     Wrote {X = Y} HasTold refusals last_refusal old mid a (Ok x) → refusals old ≤ refusals mid →
     Wrote HasTold refusals last_refusal mid new b r → length (a ++ b) < 2 ^ 32 →
     Wrote HasTold refusals last_refusal old new (a ++ b) r
@@ -64,7 +67,8 @@ wrote_then {a = a} first count second fits = wrote_behind a first.ok.1 count sec
 
 -- A field that was refused is a refusal of the whole, where that isn't too long.
 pub wrote_refused :
-    {W X Y : Type 0} {HasTold : W → List ℕ → Type 0} {refusals : W → ℕ} {last_refusal : W → Option Error} {old new : W} {a : List ℕ} {e : Error} {r : Result X Error} (b : List ℕ) →
+    {W X Y : Type 0} {HasTold : W → List ℕ → Type 0} {refusals : W → ℕ} {last_refusal : W → Option Error} {old new : W} {a : List ℕ} {e : Error}
+    {r : Result X Error} (b : List ℕ) →
     Wrote {X = Y} HasTold refusals last_refusal old new a (Err e) → r ≡ Err e → length (a ++ b) < 2 ^ 32 →
     Wrote HasTold refusals last_refusal old new (a ++ b) r
 wrote_refused {a = a} b w is fits = rw is (record {
@@ -84,7 +88,8 @@ wrote_long is long = rw is (record { ok = tt; err = inl (long, refl); part = giv
 
 -- The writer refused the first slice, of which it took nothing.
 pub wrote_nothing :
-    {W X : Type 0} {HasTold : W → List ℕ → Type 0} {refusals : W → ℕ} {last_refusal : W → Option Error} {old new : W} {bytes : List ℕ} {e : Error} {r : Result X Error} →
+    {W X : Type 0} {HasTold : W → List ℕ → Type 0} {refusals : W → ℕ} {last_refusal : W → Option Error} {old new : W} {bytes : List ℕ} {e : Error}
+    {r : Result X Error} →
     Refused refusals last_refusal old new e → ((m : List ℕ) → HasTold old m → HasTold new m) → r ≡ Err e →
     length bytes < 2 ^ 32 → Wrote HasTold refusals last_refusal old new bytes r
 wrote_nothing refused same is fits = rw is (record { ok = tt; err = inr (fits, refused); part = given_nothing same })

@@ -84,7 +84,8 @@ impl<'a> Cursor<'a> {
 pub fn field_at(tag: Tag, bytes: &[u8]) -> Option<(&[u8], &[u8])>
     ensures value { IfSome result (λ field. bytes.now ≡ encode (byte_of tag) field.0.now ++ field.1.now) }
     ensures fits { IfSome result (λ field. length (encode (byte_of tag) field.0.now) < 2 ^ 32) }
-    ensures none { IfNone result ((content rest : List ℕ) → length (encode (byte_of tag) content) < 2 ^ 32 → bytes.now ≡ encode (byte_of tag) content ++ rest → ⊥) }
+    ensures none { IfNone result ((content rest : List ℕ) → length (encode (byte_of tag) content) < 2 ^ 32
+        → bytes.now ≡ encode (byte_of tag) content ++ rest → ⊥) }
 {
     let (value, rest) = any_at(bytes)?;
     if value.tag().byte() != tag.byte() {

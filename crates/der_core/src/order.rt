@@ -85,7 +85,8 @@ impl ValueOrd for Any {
 impl DerOrd for Any {
     ghost use Rattle.std.specs.Ordering.{nat_cmp};
 
-    ghost der_order = { λ a b. first_then (nat_cmp a.tag.byte b.tag.byte) (after_lengths a.value.items b.value.items (content_order (λ v. v.value.items) a b)) };
+    ghost der_order = { λ a b. first_then (nat_cmp a.tag.byte b.tag.byte)
+        (after_lengths a.value.items b.value.items (content_order (λ v. v.value.items) a b)) };
 
     fn der_cmp(&self, other: &Self) -> Result<Ordering, Error> {
         self.owned_to_ref().der_cmp(&other.owned_to_ref())

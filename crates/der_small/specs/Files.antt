@@ -33,7 +33,8 @@ FileBytes found (Err _) = ⊥
 abbrev pub ReadsFile : {D : Type 0} → (D → List ℕ) → Option (List ℕ) → Result D Error → Type 0
 ReadsFile document_bytes found (Ok d) = IsSomeAnd found (λ bytes. (length bytes ≤ 16777216) × IsOneValue bytes (document_bytes d))
 ReadsFile document_bytes found (Err error.Malformed) = IsSomeAnd found (λ bytes. (length bytes ≤ 16777216) × NoFront IsOneValue bytes)
-ReadsFile document_bytes found (Err (error.TrailingData decoded remaining)) = IsSomeAnd found (λ bytes. (length bytes ≤ 16777216) × Trails IsOneValue bytes decoded remaining)
+ReadsFile document_bytes found (Err (error.TrailingData decoded remaining)) =
+    IsSomeAnd found (λ bytes. (length bytes ≤ 16777216) × Trails IsOneValue bytes decoded remaining)
 ReadsFile document_bytes found (Err error.FileMissing) = found ≡ None
 ReadsFile document_bytes found (Err error.FileTooLong) = IsSomeAnd found (λ bytes. 16777216 < length bytes)
 ReadsFile document_bytes found (Err error.FileFault) = Unit {0}

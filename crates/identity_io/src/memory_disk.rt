@@ -26,7 +26,12 @@ impl Model for MemoryDisk {
 
     ghost Value = { Shelf };
 
-    ghost view = { λ d. record { files = map (λ e. (string_bytes e.0, e.1.items)) d.kept.entries; failing = d.stops.items; calls = d.count; faults = d.failed } };
+    ghost view = { λ d. record {
+      files = map (λ e. (string_bytes e.0, e.1.items)) d.kept.entries;
+      failing = d.stops.items;
+      calls = d.count;
+      faults = d.failed;
+    } };
 }
 
 impl MemoryDisk {
@@ -46,7 +51,10 @@ impl MemoryDisk {
     /// Counts a call, and answers whether it fails.
     fn fails(&mut self) -> bool
         ensures fails { IsTrue result ↔ Contains self.old.failing self.old.calls }
-        ensures after { self.new ≡ record self.old { calls = one_more self.old.calls; faults = (if result then one_more self.old.faults else self.old.faults) } }
+        ensures after { self.new ≡ record self.old {
+          calls = one_more self.old.calls;
+          faults = (if result then one_more self.old.faults else self.old.faults);
+        } }
         ensures later { self.old.faults ≤ self.new.faults }
     {
         let call = self.count;

@@ -22,7 +22,14 @@ pub struct MemorySink<'a> {
 impl<'a> Model for MemorySink<'a> {
     ghost Value = { Store };
 
-    ghost view = { λ s. record { written = take s.filled s.room.now; room = length s.room.now; failing = s.stops.now; piece = s.most; calls = s.count; faults = s.failed } };
+    ghost view = { λ s. record {
+      written = take s.filled s.room.now;
+      room = length s.room.now;
+      failing = s.stops.now;
+      piece = s.most;
+      calls = s.count;
+      faults = s.failed;
+    } };
 
     ghost invariant = { λ s. (1 ≤ s.most) × (s.filled ≤ length s.room.now) };
 }

@@ -4,7 +4,8 @@ ghost use Rattle.std.specs.Prelude.{◌≡◌};
 use crate::{Failed, Sink, Source};
 use std::io::{Read, Write};
 
-/// A source over a reader of std, standard input say. It tells what its reader tells, which for a real input is nothing, and each error of the reader is a fault.
+/// A source over a reader of std, standard input say. It tells what its reader tells, which for a real input is
+/// nothing, and each error of the reader is a fault.
 #[derive(Drop)]
 pub struct StdSource<R> {
     inner: R,

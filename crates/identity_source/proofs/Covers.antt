@@ -1,5 +1,6 @@
 -- Lists under one book, by the lengths of their logs.
-use Rattle.std.proofs.Common.{◌≡◌, ℕ, ◌+◌, ◌<◌, ◌≤◌, nat_le, Bool, true, false, cond, MatchBool, List, [], ◌∷◌, ◌++◌, length, refl, ap, sym, ◌∙◌, subst, ⊎_elim, append_assoc, append-nil, length-append, arith}
+use Rattle.std.proofs.Common.{◌≡◌, ℕ, ◌+◌, ◌<◌, ◌≤◌, nat_le, Bool, true, false, cond, MatchBool, List, [], ◌∷◌, ◌++◌, length, refl, ap, sym, ◌∙◌, subst}
+use Rattle.std.proofs.Common.{⊎_elim, append_assoc, append-nil, length-append, arith}
 use Rattle.std.proofs.lemmas.Bool.Decides.{leb_tells}
 use mathlib.Core.List.{IsPrefix}
 use Rattle.round_log.proofs.Prefixes.{prefix_shorter, prefix_whole}
@@ -31,22 +32,27 @@ begins_snoc : (xs ys : List PlainState) (x : PlainState) → StartsWith xs ys �
 begins_snoc xs ys x t = (t.0 ++ x ∷ [], ap (λ (z : List PlainState). z ++ x ∷ []) t.1 ∙ append_assoc ys t.0 (x ∷ []))
 
 -- what was published no earlier than the mark begins with the mark's list: the mark is of an earlier round, or of the same one
-pub covers_published : (log mark : List Attempt) (x y : PlainState) (len place : ℕ) → IsPublished log x len → IsMark mark y place → (length log ≤ length mark → IsPrefix log mark) → (length mark ≤ length log → IsPrefix mark log) → place ≤ len
+pub covers_published : (log mark : List Attempt) (x y : PlainState) (len place : ℕ) → IsPublished log x len → IsMark mark y place
+    → (length log ≤ length mark → IsPrefix log mark) → (length mark ≤ length log → IsPrefix mark log) → place ≤ len
     → StartsWith (committed log ++ x ∷ []) (committed mark)
 covers_published log mark x y len place s m first second le =
     ⊎_elim
-    (λ (t : (nat_le (place + 1) len ≡ true) × (place + 1 ≤ len)). begins_snoc (committed log) (committed mark) x (begins_committed mark log (second (omega (arith, m.length_is, s.length_is, t.1)))))
+    (λ (t : (nat_le (place + 1) len ≡ true) × (place + 1 ≤ len)). begins_snoc (committed log) (committed mark) x
+    (begins_committed mark log (second (omega (arith, m.length_is, s.length_is, t.1)))))
     (λ (t : (nat_le (place + 1) len ≡ false) × (len < place + 1)).
     let front : List Attempt = m.before ++ tried y ∷ [] in
     let pf : IsPrefix front mark = (finished y ∷ [], sym m.log_is) in
     let long : length mark ≡ length front + 1 = ap length m.log_is ∙ length-append front (finished y ∷ []) in
-    let same : front ≡ log = prefix_whole front log (prefix_shorter front log mark pf (first (omega (arith, m.length_is, s.length_is, le, t.1))) (omega (arith, long, m.length_is, s.length_is, le, t.1))) (omega (arith, long, m.length_is, s.length_is, le, t.1)) in
+    let same : front ≡ log = prefix_whole front log (prefix_shorter front log mark pf (first (omega (arith, m.length_is, s.length_is, le, t.1)))
+    (omega (arith, long, m.length_is, s.length_is, le, t.1))) (omega (arith, long, m.length_is, s.length_is, le, t.1)) in
     let last : y ≡ x = sym (last_is x m.before y) ∙ (ap (last_state x) (same ∙ s.log_is) ∙ last_is x s.before x) in
-    let list : committed mark ≡ committed log ++ x ∷ [] = ap committed m.log_is ∙ (committed_append front (finished y ∷ []) ∙ (λ i. committed (same i) ++ last i ∷ [])) in
+    let list : committed mark ≡ committed log ++ x ∷ [] = ap committed m.log_is
+    ∙ (committed_append front (finished y ∷ []) ∙ (λ i. committed (same i) ++ last i ∷ [])) in
     ([], sym list ∙ sym (append-nil (committed mark))))
     (leb_tells (place + 1) len)
 
-pub covers_mark : (log mark : List Attempt) (x y : PlainState) (len place : ℕ) → IsMark log x len → IsMark mark y place → (length mark ≤ length log → IsPrefix mark log) → place ≤ len
+pub covers_mark : (log mark : List Attempt) (x y : PlainState) (len place : ℕ) → IsMark log x len → IsMark mark y place
+    → (length mark ≤ length log → IsPrefix mark log) → place ≤ len
     → StartsWith (committed log) (committed mark)
 covers_mark log mark x y len place s m second le = begins_committed mark log (second (omega (arith, m.length_is, s.length_is, le)))
 

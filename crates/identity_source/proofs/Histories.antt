@@ -1,5 +1,6 @@
 -- Lists of states and their beginnings.
-use Rattle.std.proofs.Common.{◌≡◌, ℕ, ◌+◌, ◌≤◌, Bool, true, false, cond, take, drop, length-append, List, [], ◌∷◌, ◌++◌, length, refl, sym, ap, ◌∙◌, subst, append_assoc, append-nil, arith}
+use Rattle.std.proofs.Common.{◌≡◌, ℕ, ◌+◌, ◌≤◌, Bool, true, false, cond, take, drop, length-append, List, [], ◌∷◌, ◌++◌, length, refl, sym, ap, ◌∙◌, subst}
+use Rattle.std.proofs.Common.{append_assoc, append-nil, arith}
 use Rattle.std.proofs.lemmas.List.{take-append-le, take-append-drop}
 use Rattle.identity_source.specs.State.{PlainState, IsOpening}
 use Rattle.identity_source.specs.History.{Follows, IsHistory, StartsWith, EndsWith, first_revision, last_from, last_revision}
@@ -16,7 +17,11 @@ pub begins_through : (xs ys zs : List PlainState) → StartsWith xs ys → Start
 begins_through xs ys zs t u = (u.0 ++ t.0, t.1 ∙ (ap (λ (z : List PlainState). z ++ t.0) u.1 ∙ append_assoc zs u.0 t.0))
 
 pub begins_take : (n : ℕ) (xs ys : List PlainState) → StartsWith xs ys → StartsWith xs (take n ys)
-begins_take n xs ys t = (drop n ys ++ t.0, t.1 ∙ (ap (λ (z : List PlainState). z ++ t.0) (sym (take-append-drop n ys)) ∙ append_assoc (take n ys) (drop n ys) t.0))
+begins_take n xs ys t = (
+  drop n ys ++ t.0,
+  t.1 ∙ (ap (λ (z : List PlainState). z ++ t.0) (sym (take-append-drop n ys))
+      ∙ append_assoc (take n ys) (drop n ys) t.0),
+)
 
 pub take_begins : (n : ℕ) (xs ys : List PlainState) → StartsWith ys xs → n ≤ length xs → take n ys ≡ take n xs
 take_begins n xs ys t le = ap (take n) t.1 ∙ take-append-le n xs t.0 le
@@ -33,9 +38,11 @@ follows_count : (r : ℕ) (bs : List PlainState) (x : PlainState) → Follows r 
 follows_count r [] x h = let a : x.revision ≡ r + 1 = h.0 in omega arith
 follows_count r (b ∷ bs) x h = let a : x.revision ≡ r + 1 + 1 + length bs = follows_count (r + 1) bs x h.2 in omega arith
 
-counted_parts : (before : List PlainState) (x : PlainState) → IsHistory (before ++ x ∷ []) → x.revision + 1 ≡ first_revision (before ++ x ∷ []) + length (before ++ x ∷ [])
+counted_parts : (before : List PlainState) (x : PlainState) → IsHistory (before ++ x ∷ [])
+    → x.revision + 1 ≡ first_revision (before ++ x ∷ []) + length (before ++ x ∷ [])
 counted_parts [] x h = omega arith
-counted_parts (b ∷ bs) x h = let a : x.revision ≡ b.revision + 1 + length bs = follows_count b.revision bs x h.1 in let e : length (bs ++ x ∷ []) ≡ length bs + 1 = length-append bs (x ∷ []) in omega arith
+counted_parts (b ∷ bs) x h = let a : x.revision ≡ b.revision + 1 + length bs = follows_count b.revision bs x h.1 in
+    let e : length (bs ++ x ∷ []) ≡ length bs + 1 = length-append bs (x ∷ []) in omega arith
 
 pub counted : (xs : List PlainState) (x : PlainState) → IsHistory xs → EndsWith xs x → x.revision + 1 ≡ first_revision xs + length xs
 counted xs x h t = subst (λ (z : List PlainState). x.revision + 1 ≡ first_revision z + length z) (sym t.1) (counted_parts t.0 x (subst IsHistory t.1 h))
@@ -43,7 +50,8 @@ counted xs x h t = subst (λ (z : List PlainState). x.revision + 1 ≡ first_rev
 -- a history goes on by a state of the next revision that is no opening one
 follows_after : (r : ℕ) (xs : List PlainState) (y : PlainState) → Follows r xs → y.revision ≡ last_from r xs + 1 → (IsOpening y → ⊥) → Follows r (xs ++ y ∷ [])
 follows_after r [] y h up no_opening = (up, no_opening, tt)
-follows_after r (x ∷ xs) y h up no_opening = let up' : y.revision ≡ last_from (r + 1) xs + 1 = up ∙ ap (λ n. last_from n xs + 1) h.0 in (h.0, h.1, follows_after (r + 1) xs y h.2 up' no_opening)
+follows_after r (x ∷ xs) y h up no_opening = let up' : y.revision ≡ last_from (r + 1) xs + 1 = up ∙ ap (λ n. last_from n xs + 1) h.0 in
+    (h.0, h.1, follows_after (r + 1) xs y h.2 up' no_opening)
 
 pub goes_after : (xs : List PlainState) (y : PlainState) → IsHistory xs → y.revision ≡ last_revision xs + 1 → (IsOpening y → ⊥) → IsHistory (xs ++ y ∷ [])
 goes_after [] y h up no_opening = absurd h

@@ -16,7 +16,8 @@ goes_along x y (Some h) e more k = (e ∙ k.0, begins_through y.list x.list h.li
 
 -- one seat has a new view
 other : (x : NamedList) (views : List (Option NamedList)) (seat : ℕ) (w : Option NamedList) → Knows x w → Keeps x views → Keeps x (set views seat w)
-other x views seat w here keeps j u e = ⊎_elim (λ (t : (j ≡ seat) × (w ≡ u)). subst (Knows x) t.1 here) (λ (t : (j ≢ seat) × (get_elem? views j ≡ some u)). keeps j u t.1) (at_set views seat j w u e)
+other x views seat w here keeps j u e = ⊎_elim (λ (t : (j ≡ seat) × (w ≡ u)). subst (Knows x) t.1 here)
+    (λ (t : (j ≢ seat) × (get_elem? views j ≡ some u)). keeps j u t.1) (at_set views seat j w u e)
 
 one_more : (x : NamedList) (views : List (Option NamedList)) (w : Option NamedList) → Knows x w → Keeps x views → Keeps x (views ++ w ∷ [])
 one_more x views w here keeps j u e = ⊎_elim (λ t. keeps j u t) (λ t. subst (Knows x) t here) (at_snoc views w u j e)
@@ -25,8 +26,11 @@ pub admits : Admits Keeps None
 admits x views keeps = one_more x views None tt keeps
 
 pub shows : (seat : ℕ) (v : Option NamedList) (x y : NamedList) → y.name ≡ x.name → StartsWith y.list x.list → TurnsAt Keeps seat v x y Sees
-shows seat v x y e more views keeps at =
-    (Some y, other y views seat (Some y) (refl, begins_self y.list) (λ j u there. goes_along x y u e more (keeps j u there)), (refl, goes_along x y v e more (keeps seat v at)))
+shows seat v x y e more views keeps at = (
+  Some y,
+  other y views seat (Some y) (refl, begins_self y.list) (λ j u there. goes_along x y u e more (keeps j u there)),
+  (refl, goes_along x y v e more (keeps seat v at)),
+)
 
 pub takes : (seat : ℕ) (v : Option NamedList) → Turns Keeps seat v (λ x. x) Sees
 takes seat v x = shows seat v x x refl (begins_self x.list)
@@ -36,7 +40,8 @@ tells seat v x views keeps at = one_more x (set views seat v) v (keeps seat v at
 
 pub learns : (seat : ℕ) (v : Option NamedList) (from : ℕ) (n : Option NamedList) → Merges Keeps seat v from n n None
 learns seat v from n x views keeps at apart there =
-    let note : Knows x n = ⊎_elim (λ (t : (from ≡ seat) × (n ≡ n)). absurd (apart t.0)) (λ (t : (from ≢ seat) × (get_elem? views from ≡ some n)). keeps from n t.1) (at_set views seat from n n there) in
+    let note : Knows x n = ⊎_elim (λ (t : (from ≡ seat) × (n ≡ n)). absurd (apart t.0))
+    (λ (t : (from ≢ seat) × (get_elem? views from ≡ some n)). keeps from n t.1) (at_set views seat from n n there) in
     other x (set views seat n) from None tt (other x views seat n note keeps)
 
 -- each operation replaces the whole state
@@ -44,11 +49,14 @@ replaces : (s : NamedList) (xs : List NamedList) (x : NamedList) → fold (λ (_
 replaces s [] x = refl
 replaces s (y ∷ ys) x = replaces y ys x
 
-pub replaces_at : (s next : NamedList) (ops before : List NamedList) (x : NamedList) → next ≡ fold (λ (_ : NamedList) (o : NamedList). o) s ops → ops ≡ before ++ x ∷ [] → next ≡ x
+pub replaces_at : (s next : NamedList) (ops before : List NamedList) (x : NamedList) → next ≡ fold (λ (_ : NamedList) (o : NamedList). o) s ops
+    → ops ≡ before ++ x ∷ [] → next ≡ x
 replaces_at s next ops before x is e = is ∙ (ap (fold (λ (_ : NamedList) (o : NamedList). o) s) e ∙ replaces s before x)
 
-pub shows_next : (seat : ℕ) (v : Option NamedList) (x x' y y' : NamedList) → x' ≡ x → y' ≡ y → y.name ≡ x.name → StartsWith y.list x.list → TurnsAt Keeps seat v x' y' Sees
-shows_next seat v x x' y y' ex ey e more = subst (λ (p : NamedList × NamedList). TurnsAt Keeps seat v p.0 p.1 Sees) (λ i. (sym ex i, sym ey i)) (shows seat v x y e more)
+pub shows_next : (seat : ℕ) (v : Option NamedList) (x x' y y' : NamedList) → x' ≡ x → y' ≡ y → y.name ≡ x.name → StartsWith y.list x.list
+    → TurnsAt Keeps seat v x' y' Sees
+shows_next seat v x x' y y' ex ey e more = subst (λ (p : NamedList × NamedList). TurnsAt Keeps seat v p.0 p.1 Sees) (λ i. (sym ex i, sym ey i))
+    (shows seat v x y e more)
 
 pub may_show_same : (y x : NamedList) → y ≡ x → (y.name ≡ x.name) × StartsWith y.list x.list
 may_show_same y x e = (ap (λ h. h.name) e, subst (λ (z : NamedList). StartsWith y.list z.list) e (begins_self y.list))

@@ -25,7 +25,16 @@ abbrev pub noted_told : List (List PlainState) → NamedList → List (List Plai
 noted_told memo r = longer (seen_of memo) r.list ∷ seen_of memo ∷ r.list ∷ olds_of memo
 
 abbrev pub sight_of : SourceName → List (List PlainState) → ℕ → ℕ → ℕ → Bool → Sight
-sight_of name memo looks misses refused live = record { name = name; seen = seen_of memo; olds = olds_of memo; looks = looks; misses = misses; refused = refused; is_live = live }
+sight_of name memo looks misses refused live = record {
+  name = name;
+  seen = seen_of memo;
+  olds = olds_of memo;
+  looks = looks;
+  misses = misses;
+  refused =
+      refused;
+  is_live = live;
+}
 
 -- what a glance that gave no state did to what the reader knows
 abbrev pub Glanced : Option NamedList → Option NamedList → Missed → Type 0

@@ -45,7 +45,8 @@ LookSays a b None = ⊥
 LookSays a b (Some Looked) = LookedAt a b
 LookSays a b (Some (Missed missed)) = MissedAt a b missed
 
--- what `current` does to the reader: its name and what it was told of stay, its list goes on or stays, and `look` says why; the list is a history from the source's first revision
+-- what `current` does to the reader: its name and what it was told of stay, its list goes on or stays, and `look` says why; the list is a history
+-- from the source's first revision
 pub record Renewed (a b : PlainReader) : Type 0 where
   pub name : b.sight.name ≡ a.sight.name
   pub is_live : b.sight.is_live ≡ a.sight.is_live

@@ -10,7 +10,8 @@ use crate::window::Missed;
 
 /// Enters, takes a share and leaves, so that a share that is kept holds up no publish.
 pub(crate) fn glance(reader: PlaceReader) -> (PlaceReader, Result<Published, Missed>)
-    ensures { MatchResult result.1 (λ x. (view result.0.place ≡ Some x) × Knows x (view reader.place)) (λ m. Glanced (view reader.place) (view result.0.place) m) }
+    ensures { MatchResult result.1 (λ x. (view result.0.place ≡ Some x) × Knows x (view reader.place))
+        (λ m. Glanced (view reader.place) (view result.0.place) m) }
 {
     match reader.enter_as::<Takes>() {
         Ok(entered) => match entered.get().try_clone() {

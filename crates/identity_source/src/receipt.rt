@@ -8,7 +8,8 @@ use crate::published::Mark;
 use crate::snapshot::Snapshot;
 use std::marker::Model;
 
-/// Proof of a list of a source, with its last state. Tell it to a reader of the same source, on any thread and at any time: the reader then answers from this place or later.
+/// Proof of a list of a source, with its last state. Tell it to a reader of the same source, on any thread and at any
+/// time: the reader then answers from this place or later.
 #[derive(Drop)]
 pub struct Receipt {
     mark: Mark,

@@ -1,5 +1,6 @@
 -- The document around entries that were written.
-use Rattle.std.proofs.Common.{◌≡◌, ℕ, ◌+◌, ◌≤◌, List, [], ◌++◌, length, map, option_map, Option, Some, None, IfSome, refl, sym, ap, subst, ◌∙◌, append-nil, length-append, arith}
+use Rattle.std.proofs.Common.{◌≡◌, ℕ, ◌+◌, ◌≤◌, List, [], ◌++◌, length, map, option_map, Option, Some, None, IfSome, refl, sym, ap, subst, ◌∙◌, append-nil}
+use Rattle.std.proofs.Common.{length-append, arith}
 use Rattle.std.proofs.lemmas.List.Folds.{flat_map-map}
 use Rattle.std.specs.List.{flat_map}
 use Rattle.der_core.specs.Any.{PlainAny, der_of, plain_ref}
@@ -32,23 +33,32 @@ abbrev bundles_read : List BundleParts → List ℕ
 bundles_read bundles = flat_map (λ b. bundle_der (canonical_bundle (plain_bundle b))) bundles
 
 bundles_are : (bundles : List BundleParts) → bundles_der bundles ≡ bundles_read bundles
-bundles_are bundles = flat_map-map bundle_der canonical_bundle (map plain_bundle bundles) ∙ flat_map-map (λ b. bundle_der (canonical_bundle b)) plain_bundle bundles
+bundles_are bundles = flat_map-map bundle_der canonical_bundle (map plain_bundle bundles)
+    ∙ flat_map-map (λ b. bundle_der (canonical_bundle b)) plain_bundle bundles
 
 -- the one document of parts is what is written of them
-pub assembled_der : (entries : List CheckedEntry) (bundles : List BundleParts) (reason : Option Utf8Ref) → update_der (assembled entries bundles reason) ≡ encode 48 (encode 48 (flat_map (λ e. entry_der (canonical_entry (checked_entry e))) entries) ++ fields_behind (flat_map (λ b. bundle_der (canonical_bundle (plain_bundle b))) bundles) (option_map text_ref reason))
+pub assembled_der : (entries : List CheckedEntry) (bundles : List BundleParts) (reason : Option Utf8Ref)
+    → update_der (assembled entries bundles reason) ≡ encode 48
+    (encode 48 (flat_map (λ e. entry_der (canonical_entry (checked_entry e))) entries)
+    ++ fields_behind (flat_map (λ b. bundle_der (canonical_bundle (plain_bundle b))) bundles) (option_map text_ref reason))
 assembled_der entries bundles reason =
     let es : entries_der (map checked_entry entries) ≡ flat_map (λ e. entry_der (canonical_entry (checked_entry e))) entries =
     flat_map-map entry_der canonical_entry (map checked_entry entries) ∙ flat_map-map (λ e. entry_der (canonical_entry e)) checked_entry entries in
     ap (λ (x : List ℕ). encode 48 (fields_written x (bundles_der bundles) (option_map text_ref reason))) es
-    ∙ ap (λ (x : List ℕ). encode 48 (fields_written (flat_map (λ e. entry_der (canonical_entry (checked_entry e))) entries) x (option_map text_ref reason))) (bundles_are bundles)
+    ∙ ap (λ (x : List ℕ). encode 48 (fields_written (flat_map (λ e. entry_der (canonical_entry (checked_entry e))) entries) x (option_map text_ref reason)))
+    (bundles_are bundles)
 
 -- the fields of a document around a list that was written before
-pub around : (list : AnyRef) (written : List ℕ) (bundles : List BundleParts) (reason : Option Utf8Ref) → plain_ref list ≡ record { tag = 48; content = written } → encode list.tag.byte list.value.now ++ fields_behind (flat_map (λ b. bundle_der (canonical_bundle (plain_bundle b))) bundles) (option_map text_ref reason) ≡ encode 48 written ++ behind bundles reason
+pub around : (list : AnyRef) (written : List ℕ) (bundles : List BundleParts) (reason : Option Utf8Ref)
+    → plain_ref list ≡ record { tag = 48; content = written }
+    → encode list.tag.byte list.value.now ++ fields_behind (flat_map (λ b. bundle_der (canonical_bundle (plain_bundle b))) bundles)
+    (option_map text_ref reason) ≡ encode 48 written ++ behind bundles reason
 around list written bundles reason is =
     ap (λ (v : PlainAny). der_of v ++ fields_behind (bundles_read bundles) (option_map text_ref reason)) is
     ∙ ap (λ (x : List ℕ). encode 48 written ++ fields_behind x (option_map text_ref reason)) (sym (bundles_are bundles))
 
-pub list_is : (list : AnyRef) (written : List ℕ) → plain_ref list ≡ record { tag = 48; content = written } → encode list.tag.byte list.value.now ≡ encode 48 written
+pub list_is : (list : AnyRef) (written : List ℕ) → plain_ref list ≡ record { tag = 48; content = written }
+    → encode list.tag.byte list.value.now ≡ encode 48 written
 list_is list written is = ap der_of is
 
 pub record Sizes (document entries content : List ℕ) : Type 0 where
@@ -70,25 +80,30 @@ entries_shorter w =
     omega (arith, s)
 
 -- where the entries of a document stand
-pub entries_found : (document entries behind : List ℕ) (p : Place) → document ≡ encode 48 (encode 48 entries ++ behind) → p.end + length behind ≡ length document → p.start + length entries ≡ p.end → FoundAt document p entries
+pub entries_found : (document entries behind : List ℕ) (p : Place) → document ≡ encode 48 (encode 48 entries ++ behind)
+    → p.end + length behind ≡ length document → p.start + length entries ≡ p.end → FoundAt document p entries
 entries_found document entries behind p is after before =
     let listed = ends_first entries (encode 48 entries) behind (ends_value 48 entries entries (ends_self entries)) in
-    let ends : Ends (entries ++ behind) document = subst (Ends (entries ++ behind)) (sym is) (ends_value 48 (entries ++ behind) (encode 48 entries ++ behind) listed) in
+    let ends : Ends (entries ++ behind) document = subst (Ends (entries ++ behind)) (sym is)
+    (ends_value 48 (entries ++ behind) (encode 48 entries ++ behind) listed) in
     found_at document [] document [] entries behind (length document) p (sym (append-nil document)) (omega arith) ends after before
 
 reason_field_ends : (reason : Option Utf8Ref) → IfSome (option_map text_ref reason) (λ text. Ends text (reason_der (option_map text_ref reason)))
 reason_field_ends None = tt
 reason_field_ends (Some text) = ends_value 128 (text_ref text) (text_ref text) (ends_self (text_ref text))
 
-ends_in : (document : List ℕ) (reason : Option Utf8Ref) → ((tail : List ℕ) → Ends tail (reason_der (option_map text_ref reason)) → Ends tail document) → IfSome (option_map text_ref reason) (λ text. Ends text document)
+ends_in : (document : List ℕ) (reason : Option Utf8Ref) → ((tail : List ℕ) → Ends tail (reason_der (option_map text_ref reason)) → Ends tail document)
+    → IfSome (option_map text_ref reason) (λ text. Ends text document)
 ends_in document None in_document = tt
 ends_in document (Some text) in_document = in_document (text_ref text) (reason_field_ends (Some text))
 
 -- the reason ends the document
-pub reason_ends : (document written : List ℕ) (bundles : List BundleParts) (reason : Option Utf8Ref) → document ≡ document_of written bundles reason → IfSome (option_map text_ref reason) (λ text. Ends text document)
+pub reason_ends : (document written : List ℕ) (bundles : List BundleParts) (reason : Option Utf8Ref) → document ≡ document_of written bundles reason
+    → IfSome (option_map text_ref reason) (λ text. Ends text document)
 reason_ends document written bundles reason is =
     let first : List ℕ = encode 48 written in
     let second : List ℕ = encode 48 (bundles_der bundles) in
     let field : List ℕ = reason_der (option_map text_ref reason) in
     ends_in document reason
-    (λ tail e. subst (Ends tail) (sym is) (ends_value 48 tail (first ++ (second ++ field)) (ends_second first tail (second ++ field) (ends_second second tail field e))))
+    (λ tail e. subst (Ends tail) (sym is) (ends_value 48 tail (first ++ (second ++ field))
+    (ends_second first tail (second ++ field) (ends_second second tail field e))))

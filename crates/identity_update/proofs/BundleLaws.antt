@@ -1,5 +1,6 @@
 -- One more bundle.
-use Rattle.std.proofs.Common.{◌≡◌, ℕ, ◌+◌, ◌<◌, ◌≤◌, ◌||◌, Bool, true, false, List, [], ◌∷◌, ◌++◌, length, drop, get_or, map, Result, Ok, refl, sym, ap, ◌∙◌, append_assoc, append-nil, bytes_eq, length-append, arith}
+use Rattle.std.proofs.Common.{◌≡◌, ℕ, ◌+◌, ◌<◌, ◌≤◌, ◌||◌, Bool, true, false, List, [], ◌∷◌, ◌++◌, length, drop, get_or, map, Result, Ok, refl, sym, ap, ◌∙◌}
+use Rattle.std.proofs.Common.{append_assoc, append-nil, bytes_eq, length-append, arith}
 use Rattle.std.specs.Prelude.{is_some}
 use Rattle.std.proofs.lemmas.Grind.{fold-append}
 use Rattle.std.proofs.lemmas.List.{drop_more, map-append}
@@ -36,14 +37,17 @@ or_or false b c = refl
 
 has_push : (q : List ℕ) (bs : List Bundle) (b : Bundle) → has_bundle q (bs ++ b ∷ []) ≡ (has_bundle q bs || bytes_eq b.trust_domain q)
 has_push q [] b = or_false (bytes_eq b.trust_domain q)
-has_push q (x ∷ bs) b = ap (λ t. bytes_eq x.trust_domain q || t) (has_push q bs b) ∙ or_or (bytes_eq x.trust_domain q) (has_bundle q bs) (bytes_eq b.trust_domain q)
+has_push q (x ∷ bs) b = ap (λ t. bytes_eq x.trust_domain q || t) (has_push q bs b)
+    ∙ or_or (bytes_eq x.trust_domain q) (has_bundle q bs) (bytes_eq b.trust_domain q)
 
-added_at : (q domain : List ℕ) (t : Bool) (old : Bundles) (bs : List Bundle) (v : KeysOfDomain) → bytes_eq domain q ≡ t → HasTheDomains old bs → is_some (find_entry q (with_entry old domain v)) ≡ (has_bundle q bs || t)
+added_at : (q domain : List ℕ) (t : Bool) (old : Bundles) (bs : List Bundle) (v : KeysOfDomain) → bytes_eq domain q ≡ t → HasTheDomains old bs
+    → is_some (find_entry q (with_entry old domain v)) ≡ (has_bundle q bs || t)
 added_at q domain true old bs v is has =
     let same : domain ≡ q = (bytes_eq-Decides domain q).0 is in
     rw (← same) (rw (found_same domain v old) (sym (or_true (has_bundle domain bs))))
 added_at q domain false old bs v is has =
-    rw (found_other q domain v old (λ e. let yes_it : bytes_eq domain q ≡ true = (bytes_eq-Decides domain q).1 (sym e) in cc)) (has q ∙ sym (or_false (has_bundle q bs)))
+    rw (found_other q domain v old (λ e. let yes_it : bytes_eq domain q ≡ true = (bytes_eq-Decides domain q).1 (sym e) in cc))
+    (has q ∙ sym (or_false (has_bundle q bs)))
 
 added : (old : Bundles) (bs : List Bundle) (b : Bundle) → HasTheDomains old bs → HasTheDomains (with_bundle old (keys_of_bundle b)) (bs ++ b ∷ [])
 added old bs b has q = added_at q b.trust_domain (bytes_eq b.trust_domain q) old bs (keys_of_bundle b) refl has ∙ sym (has_push q bs b)
@@ -62,7 +66,8 @@ map_push bs b =
     ap (λ (xs : List KeysOfDomain). with_bundles [] xs) (map-append keys_of_bundle bs (b ∷ []))
     ∙ fold-append with_bundle [] (map keys_of_bundle bs) (keys_of_bundle b ∷ [])
 
-pub set_more : (old new : Bundles) (keys : KeysOfDomain) (parts more : List BundleParts) (listed : BundleParts) → old ≡ bundle_map (map plain_bundle parts) → new ≡ with_bundle old keys → keys ≡ keys_of_bundle (plain_bundle listed) → more ≡ parts ++ listed ∷ [] → new ≡ bundle_map (map plain_bundle more)
+pub set_more : (old new : Bundles) (keys : KeysOfDomain) (parts more : List BundleParts) (listed : BundleParts) → old ≡ bundle_map (map plain_bundle parts)
+    → new ≡ with_bundle old keys → keys ≡ keys_of_bundle (plain_bundle listed) → more ≡ parts ++ listed ∷ [] → new ≡ bundle_map (map plain_bundle more)
 set_more old new keys parts more listed so added named pushed =
     added
     ∙ ap (λ (k : KeysOfDomain). with_bundle old k) named
@@ -70,13 +75,16 @@ set_more old new keys parts more listed so added named pushed =
     ∙ sym (map_push (map plain_bundle parts) (plain_bundle listed))
     ∙ ap bundle_map (sym (ap (map plain_bundle) pushed ∙ map-append plain_bundle parts (listed ∷ [])))
 
-pub checked_more : (n : ℕ) (bs : List BundleRef) (item : BundleRef) (parts new : List BundleParts) (listed : BundleParts) (all : Result (List Bundle) UpdateError) → n < length bs → item ≡ get_or bs n item → bundle_check n (written_bundle item) ≡ Ok (plain_bundle listed) → new ≡ parts ++ listed ∷ []
+pub checked_more : (n : ℕ) (bs : List BundleRef) (item : BundleRef) (parts new : List BundleParts) (listed : BundleParts)
+    (all : Result (List Bundle) UpdateError) → n < length bs → item ≡ get_or bs n item → bundle_check n (written_bundle item) ≡ Ok (plain_bundle listed)
+    → new ≡ parts ++ listed ∷ []
     → map_ok (λ more. map plain_bundle parts ++ more) (bundles_check n (map written_bundle (drop n bs))) ≡ all
     → map_ok (λ more. map plain_bundle new ++ more) (bundles_check (n + 1) (map written_bundle (drop (n + 1) bs))) ≡ all
 checked_more n bs item parts new listed all lt is ok pushed so =
     let at : drop n bs ≡ item ∷ drop (n + 1) bs = drop_more bs n item lt ∙ ap (λ x. x ∷ drop (n + 1) bs) (sym is) in
     let here = ap (λ x. map_ok (λ more. map plain_bundle parts ++ more) (bundles_check n (map written_bundle x))) at in
-    let read = ap (λ x. map_ok (λ more. map plain_bundle parts ++ more) (then_ok x (λ first. map_ok (λ more. first ∷ more) (bundles_check (n + 1) (map written_bundle (drop (n + 1) bs)))))) ok in
+    let read = ap (λ x. map_ok (λ more. map plain_bundle parts ++ more)
+    (then_ok x (λ first. map_ok (λ more. first ∷ more) (bundles_check (n + 1) (map written_bundle (drop (n + 1) bs)))))) ok in
     one_more plain_bundle parts new listed (bundles_check (n + 1) (map written_bundle (drop (n + 1) bs))) pushed ∙ sym read ∙ sym here ∙ so
 
 -- a key set is no longer than its bundle

@@ -1,5 +1,6 @@
 -- The document of an update is read as what it writes.
-use Rattle.std.proofs.Common.{◌≡◌, ℕ, ◌<◌, ◌^◌, Bool, true, false, List, [], ◌∷◌, ◌++◌, length, map, Option, Some, None, option_map, IfSome, Result, Ok, refl, sym, ap, subst, ◌∙◌, if◌then◌else◌}
+use Rattle.std.proofs.Common.{◌≡◌, ℕ, ◌<◌, ◌^◌, Bool, true, false, List, [], ◌∷◌, ◌++◌, length, map, Option, Some, None, option_map, IfSome, Result, Ok, refl}
+use Rattle.std.proofs.Common.{sym, ap, subst, ◌∙◌, if◌then◌else◌}
 use Rattle.std.specs.List.{AllByRecursion, flat_map}
 use Rattle.std.specs.Str.{IsUtf8}
 use Rattle.der_core.specs.Der.{IsTag, encode}
@@ -46,7 +47,8 @@ some_bits : (holds : Bool) (k : PlainBits) → AreBits k.unused_bits k.octets �
 some_bits true k bits = record { bits = bits; is = refl }
 some_bits false k bits = tt
 
-private_key_reads : (document : List ℕ) (e : KeptEntry) → IsPlaced document e → length (private_key_der (kept_entry document e).private_key) < 2 ^ 32 → ReadsPrivateKey (private_key_der (kept_entry document e).private_key) (kept_entry document e).private_key
+private_key_reads : (document : List ℕ) (e : KeptEntry) → IsPlaced document e → length (private_key_der (kept_entry document e).private_key) < 2 ^ 32
+    → ReadsPrivateKey (private_key_der (kept_entry document e).private_key) (kept_entry document e).private_key
 private_key_reads document e placed fits =
     let key : PlainPrivateKey = (kept_entry document e).private_key in
     let fields = content_fits 48 (fields_written plain_texts key) fits in
@@ -67,7 +69,9 @@ text_reads : (text : List ℕ) → IsUtf8 text → length (encode 12 text) < 2 ^
 text_reads text utf8 fits = record { content = text; has = (refl, utf8); is = refl; fits = fits }
 
 -- the document of an entry is read as that entry
-entry_reads : (document : List ℕ) (e : KeptEntry) → IsPlaced document e → HasCanonicalId (kept_entry document e) → length (entry_der (canonical_entry (kept_entry document e))) < 2 ^ 32 → ReadsEntry (entry_der (canonical_entry (kept_entry document e))) (canonical_entry (kept_entry document e))
+entry_reads : (document : List ℕ) (e : KeptEntry) → IsPlaced document e → HasCanonicalId (kept_entry document e)
+    → length (entry_der (canonical_entry (kept_entry document e))) < 2 ^ 32
+    → ReadsEntry (entry_der (canonical_entry (kept_entry document e))) (canonical_entry (kept_entry document e))
 entry_reads document e placed id fits =
     let v : Entry = kept_entry document e in
     let text : List ℕ = encode 12 (id_text e.id) in
@@ -94,7 +98,8 @@ entry_reads document e placed id fits =
       };
     }
 
-bundle_reads : (b : Bundle) → IsUtf8 b.trust_domain → length (bundle_der (canonical_bundle b)) < 2 ^ 32 → ReadsBundle (bundle_der (canonical_bundle b)) (canonical_bundle b)
+bundle_reads : (b : Bundle) → IsUtf8 b.trust_domain → length (bundle_der (canonical_bundle b)) < 2 ^ 32
+    → ReadsBundle (bundle_der (canonical_bundle b)) (canonical_bundle b)
 bundle_reads b utf8 fits =
     let text : List ℕ = encode 12 b.trust_domain in
     let jwks : List ℕ = encode 4 b.jwks in
@@ -112,7 +117,9 @@ bundle_reads b utf8 fits =
       };
     }
 
-entries_read : (document : List ℕ) (es : List KeptEntry) → AreKept document es → AllByRecursion HasCanonicalId (map (kept_entry document) es) → length (flat_map entry_der (map canonical_entry (map (kept_entry document) es))) < 2 ^ 32 → Elements ReadsEntry (map canonical_entry (map (kept_entry document) es)) (flat_map entry_der (map canonical_entry (map (kept_entry document) es)))
+entries_read : (document : List ℕ) (es : List KeptEntry) → AreKept document es → AllByRecursion HasCanonicalId (map (kept_entry document) es)
+    → length (flat_map entry_der (map canonical_entry (map (kept_entry document) es))) < 2 ^ 32
+    → Elements ReadsEntry (map canonical_entry (map (kept_entry document) es)) (flat_map entry_der (map canonical_entry (map (kept_entry document) es)))
 entries_read document [] kept ids fits = refl
 entries_read document (e ∷ es) kept ids fits =
     let first : List ℕ = entry_der (canonical_entry (kept_entry document e)) in
@@ -125,7 +132,8 @@ entries_read document (e ∷ es) kept ids fits =
       next = entries_read document es kept.1 ids.1 (rest_fits first more fits);
     }
 
-bundles_read : (bs : List Bundle) → AllByRecursion HasCanonicalDomain bs → length (flat_map bundle_der (map canonical_bundle bs)) < 2 ^ 32 → Elements ReadsBundle (map canonical_bundle bs) (flat_map bundle_der (map canonical_bundle bs))
+bundles_read : (bs : List Bundle) → AllByRecursion HasCanonicalDomain bs → length (flat_map bundle_der (map canonical_bundle bs)) < 2 ^ 32
+    → Elements ReadsBundle (map canonical_bundle bs) (flat_map bundle_der (map canonical_bundle bs))
 bundles_read [] h fits = refl
 bundles_read (b ∷ bs) h fits =
     let first : List ℕ = bundle_der (canonical_bundle b) in
@@ -142,9 +150,11 @@ reason_reads : (reason : Option (List ℕ)) → IfSome reason IsReasonText → l
 reason_reads None h fits = refl
 reason_reads (Some text) h fits = record { content = text; has = (refl, h); is = refl; fits = fits }
 
-canonical_reads : (document : List ℕ) (es : List KeptEntry) (bundles : List Bundle) (reason : Option (List ℕ)) → AreKept document es → AllByRecursion HasCanonicalId (map (kept_entry document) es) → AllByRecursion HasCanonicalDomain bundles → IfSome reason IsReasonText
+canonical_reads : (document : List ℕ) (es : List KeptEntry) (bundles : List Bundle) (reason : Option (List ℕ)) → AreKept document es
+    → AllByRecursion HasCanonicalId (map (kept_entry document) es) → AllByRecursion HasCanonicalDomain bundles → IfSome reason IsReasonText
     → length (update_der (record { entries = map (kept_entry document) es; bundles = bundles; reason = reason })) < 2 ^ 32
-    → ReadsUpdate (update_der (record { entries = map (kept_entry document) es; bundles = bundles; reason = reason })) (canonical (record { entries = map (kept_entry document) es; bundles = bundles; reason = reason }))
+    → ReadsUpdate (update_der (record { entries = map (kept_entry document) es; bundles = bundles; reason = reason }))
+    (canonical (record { entries = map (kept_entry document) es; bundles = bundles; reason = reason }))
 canonical_reads document kept bundles reason are_kept ids domains is_reason fits =
     let es : List ℕ = flat_map entry_der (map canonical_entry (map (kept_entry document) kept)) in
     let bs : List ℕ = flat_map bundle_der (map canonical_bundle bundles) in
@@ -175,7 +185,8 @@ canonical_reads document kept bundles reason are_kept ids domains is_reason fits
     }
 
 -- the document that is kept is read as what the update writes
-pub kept_reads : (document : List ℕ) (at : Place) (es : List KeptEntry) (bs : List BundleParts) (set : Bundles) (r : Option Place) → IsKeptUpdate document at es bs set r → ReadsUpdate document (canonical (kept_update document at es bs r))
+pub kept_reads : (document : List ℕ) (at : Place) (es : List KeptEntry) (bs : List BundleParts) (set : Bundles) (r : Option Place)
+    → IsKeptUpdate document at es bs set r → ReadsUpdate document (canonical (kept_update document at es bs r))
 kept_reads document at es bs set r kept =
     let u : UpdateParts = kept_update document at es bs r in
     let fits = subst (λ (x : List ℕ). length x < 2 ^ 32) kept.document_is kept.small in
@@ -183,7 +194,8 @@ kept_reads document at es bs set r kept =
     (canonical_reads (part document at) es u.bundles u.reason kept.entries kept.lawful.ids kept.lawful.domains kept.lawful.reason fits)
 
 -- one document is that of one update
-pub one_document : (a b : UpdateParts) (first second : List ℕ) → first ≡ update_der a → second ≡ update_der b → ReadsUpdate first (canonical a) → ReadsUpdate second (canonical b) → verdict (canonical a) ≡ Ok a → verdict (canonical b) ≡ Ok b → update_der a ≡ update_der b → a ≡ b
+pub one_document : (a b : UpdateParts) (first second : List ℕ) → first ≡ update_der a → second ≡ update_der b → ReadsUpdate first (canonical a)
+    → ReadsUpdate second (canonical b) → verdict (canonical a) ≡ Ok a → verdict (canonical b) ≡ Ok b → update_der a ≡ update_der b → a ≡ b
 one_document a b first second x y r s v w same =
     let bytes : first ≡ second = x ∙ same ∙ sym y in
     let written = update_one.one second (canonical a) (canonical b) (subst (λ (d : List ℕ). ReadsUpdate d (canonical a)) bytes r) s in

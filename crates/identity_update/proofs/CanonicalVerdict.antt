@@ -9,7 +9,8 @@ use Rattle.spki.specs.Same.{algorithms_decide, bits_decide}
 use Rattle.identity_update.specs.Canonical.{canonical, canonical_bundle, canonical_entry}
 use Rattle.identity_update.specs.Lawful.{HasCanonicalDomain, HasCanonicalId, HasOneKey, HasOnePurpose, IsLawful}
 use Rattle.identity_update.specs.Parts.{Bundle, Entry, UpdateParts}
-use Rattle.identity_update.specs.Verdict.{bundle_check, bundles_check, entries_check, entry_check, entry_of, has_bundle, holds_no_other, keys_check, map_refusal, members_check, purpose_check, verdict}
+use Rattle.identity_update.specs.Verdict.{bundle_check, bundles_check, entries_check, entry_check, entry_of, has_bundle, holds_no_other, keys_check}
+use Rattle.identity_update.specs.Verdict.{map_refusal, members_check, purpose_check, verdict}
 use Rattle.identity_update.specs.declared.error.UpdateError.{UpdateError}
 use Rattle.identity_update.specs.declared.error.UpdateError.TheVariants.{AlgorithmMismatch, Authorities, Domain, MissingBundle, PublicKeyMismatch, Subject}
 use Rattle.identity_update.proofs.JudgeLaws.{judged_lawful}
@@ -50,20 +51,25 @@ passes f (Err e) b h = cc
 
 bundle_holds : (n : ℕ) (b : Bundle) → HasCanonicalDomain b → IsOk (key_set_of b.jwks) → bundle_check n (canonical_bundle b) ≡ Ok b
 bundle_holds n b domain keys =
-    let set : List ℕ → Result Bundle UpdateError = λ d. map_ok (λ _. record { trust_domain = d; jwks = b.jwks }) (map_refusal (Authorities n) (key_set_of b.jwks)) in
+    let set : List ℕ → Result Bundle UpdateError = λ d. map_ok (λ _. record { trust_domain = d; jwks = b.jwks })
+    (map_refusal (Authorities n) (key_set_of b.jwks)) in
     ap (λ r. then_ok (map_refusal (Domain n) r) set) domain ∙ passes (Authorities n) (key_set_of b.jwks) b keys
 
-bundles_hold : (n : ℕ) (bs : List Bundle) → AllByRecursion HasCanonicalDomain bs → AllByRecursion (λ b. IsOk (key_set_of b.jwks)) bs → bundles_check n (map canonical_bundle bs) ≡ Ok bs
+bundles_hold : (n : ℕ) (bs : List Bundle) → AllByRecursion HasCanonicalDomain bs → AllByRecursion (λ b. IsOk (key_set_of b.jwks)) bs
+    → bundles_check n (map canonical_bundle bs) ≡ Ok bs
 bundles_hold n [] domains keys = refl
 bundles_hold n (b ∷ bs) domains keys =
     let more : Bundle → Result (List Bundle) UpdateError = λ first. map_ok (λ more. first ∷ more) (bundles_check (n + 1) (map canonical_bundle bs)) in
     ap (λ (r : Result Bundle UpdateError). then_ok r more) (bundle_holds n b domains.0 keys.0)
     ∙ ap (λ (r : Result (List Bundle) UpdateError). map_ok (λ more. b ∷ more) r) (bundles_hold (n + 1) bs domains.1 keys.1)
 
-members_hold : (n : ℕ) (bundles : List Bundle) (es : List Entry) → AllByRecursion (λ e. has_bundle e.id.trust_domain bundles ≡ true) es → members_check n bundles es ≡ Ok tt
+members_hold : (n : ℕ) (bundles : List Bundle) (es : List Entry) → AllByRecursion (λ e. has_bundle e.id.trust_domain bundles ≡ true) es
+    → members_check n bundles es ≡ Ok tt
 members_hold n bundles [] h = refl
-members_hold n bundles (e ∷ es) h = ap (λ (t : Bool). if t then members_check (n + 1) bundles es else Err (MissingBundle n)) h.0 ∙ members_hold (n + 1) bundles es h.1
+members_hold n bundles (e ∷ es) h = ap (λ (t : Bool). if t then members_check (n + 1) bundles es else Err (MissingBundle n)) h.0
+    ∙ members_hold (n + 1) bundles es h.1
 
 pub lawful_verdict : (u : UpdateParts) → IsLawful u → verdict (canonical u) ≡ Ok u
 lawful_verdict u h =
-    judged_lawful (canonical u) u.entries u.bundles (purpose_holds u.entries u.reason h.purpose) (entries_hold 0 u.entries h.ids h.keys) (bundles_hold 0 u.bundles h.domains h.key_sets) (members_hold 0 u.bundles u.entries h.members)
+    judged_lawful (canonical u) u.entries u.bundles (purpose_holds u.entries u.reason h.purpose) (entries_hold 0 u.entries h.ids h.keys)
+    (bundles_hold 0 u.bundles h.domains h.key_sets) (members_hold 0 u.bundles u.entries h.members)

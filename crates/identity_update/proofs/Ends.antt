@@ -34,13 +34,15 @@ ends_first tail first second e = record { front = e.front; is = ap (λ (x : List
 pub ends_cons : (x : ℕ) (s : List ℕ) → Ends s (x ∷ s)
 ends_cons x s = record { front = x ∷ []; is = refl }
 
-slice_middle : (front middle back : List ℕ) (start end : ℕ) → length front ≡ start → start + length middle ≡ end → slice_range (front ++ (middle ++ back)) start end ≡ middle
+slice_middle : (front middle back : List ℕ) (start end : ℕ) → length front ≡ start → start + length middle ≡ end
+    → slice_range (front ++ (middle ++ back)) start end ≡ middle
 slice_middle front middle back start end s e =
     let n : length middle ≡ end - start = omega arith in
     ap (λ (x : List ℕ). take (end - start) x) (drop_at front (middle ++ back) start s) ∙ take_at middle back (end - start) n
 
 -- a part that stands `after` bytes before the end of a value which ends at `end`
-pub found_at : (document pre whole post middle back : List ℕ) (end : ℕ) (p : Place) → document ≡ pre ++ (whole ++ post) → length pre + length whole ≡ end → Ends (middle ++ back) whole
+pub found_at : (document pre whole post middle back : List ℕ) (end : ℕ) (p : Place) → document ≡ pre ++ (whole ++ post) → length pre + length whole ≡ end
+    → Ends (middle ++ back) whole
     → p.end + length back ≡ end → p.start + length middle ≡ p.end → FoundAt document p middle
 found_at document pre whole post middle back end p is at e after before =
     let front : List ℕ = pre ++ e.front in

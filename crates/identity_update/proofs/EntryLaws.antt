@@ -33,7 +33,9 @@ pub record EntriesSoFar (written : List ℕ) (kept : List KeptEntry) (left : Lis
   pub so : map_ok (λ more. map (kept_entry written) kept ++ more) (entries_check (length kept) left) ≡ all
   pub fits : length written + length (flat_map entry_der left) < 2 ^ 32
 
-pub entry_has_room : (written : List ℕ) (kept : List KeptEntry) (first : WrittenEntry) (rest : List WrittenEntry) (all : Result (List Entry) UpdateError) (n : ℕ) (v : Entry) → EntriesSoFar written kept (first ∷ rest) all → entry_check n first ≡ Ok v → length written + length (entry_der (canonical_entry v)) < 2 ^ 32
+pub entry_has_room : (written : List ℕ) (kept : List KeptEntry) (first : WrittenEntry) (rest : List WrittenEntry) (all : Result (List Entry) UpdateError)
+    (n : ℕ) (v : Entry) → EntriesSoFar written kept (first ∷ rest) all → entry_check n first ≡ Ok v
+    → length written + length (entry_der (canonical_entry v)) < 2 ^ 32
 entry_has_room written kept first rest all n v h ok =
     let fits = h.fits in
     let sum = length-append (entry_der first) (flat_map entry_der rest) in
@@ -43,7 +45,10 @@ entry_has_room written kept first rest all n v h ok =
 then_first : List Entry → List WrittenEntry → ℕ → Result Entry UpdateError → Result (List Entry) UpdateError
 then_first old rest n r = with_others old (then_ok r (λ v. map_ok (λ more. v ∷ more) (entries_check (n + 1) rest)))
 
-pub entry_after : (written : List ℕ) (kept : List KeptEntry) (first : WrittenEntry) (rest : List WrittenEntry) (all : Result (List Entry) UpdateError) (n : ℕ) (v : Entry) (e : KeptEntry) (new : List ℕ) (fs : List KeptEntry) → EntriesSoFar written kept (first ∷ rest) all → n ≡ length kept → entry_check n first ≡ Ok v → new ≡ written ++ entry_der (canonical_entry v) → fs ≡ kept ++ e ∷ [] → kept_entry new e ≡ v → IsKept new e → EntriesSoFar new fs rest all
+pub entry_after : (written : List ℕ) (kept : List KeptEntry) (first : WrittenEntry) (rest : List WrittenEntry) (all : Result (List Entry) UpdateError)
+    (n : ℕ) (v : Entry) (e : KeptEntry) (new : List ℕ) (fs : List KeptEntry) → EntriesSoFar written kept (first ∷ rest) all → n ≡ length kept
+    → entry_check n first ≡ Ok v → new ≡ written ++ entry_der (canonical_entry v) → fs ≡ kept ++ e ∷ [] → kept_entry new e ≡ v → IsKept new e
+    → EntriesSoFar new fs rest all
 unfolding then_first
 entry_after written kept first rest all n v e new fs h at ok is push same one =
     let old : List Entry = map (kept_entry written) kept in
@@ -65,7 +70,8 @@ entry_after written kept first rest all n v e new fs h at ok is push same one =
     }
 
 -- the last of a reversed list is the next one
-pub popped : (old new : List EntryRef) (entry : EntryRef) → old ≡ new ++ entry ∷ [] → map written_entry (reverse old) ≡ written_entry entry ∷ map written_entry (reverse new)
+pub popped : (old new : List EntryRef) (entry : EntryRef) → old ≡ new ++ entry ∷ []
+    → map written_entry (reverse old) ≡ written_entry entry ∷ map written_entry (reverse new)
 popped old new entry is = ap (λ (es : List EntryRef). map written_entry (reverse es)) is ∙ ap (map written_entry) (reverse-append new (entry ∷ []))
 
 -- the same of entries that have only the rules of keys
@@ -78,12 +84,15 @@ pub record PairsSoFar (written : List ℕ) (kept : List KeptEntry) (left all : L
 then_pairs : List Entry → ℕ → Result (Unit {0}) UpdateError → Result (Unit {0}) UpdateError
 then_pairs rest n r = then_ok r (λ _. pairs_check (n + 1) rest)
 
-pub pair_after : (written : List ℕ) (kept : List KeptEntry) (first : Entry) (rest all : List Entry) (n : ℕ) (e : KeptEntry) (new : List ℕ) (fs : List KeptEntry) → PairsSoFar written kept (first ∷ rest) all → n ≡ length kept → keys_check n first.private_key first.public_key ≡ Ok tt → new ≡ written ++ entry_der (canonical_entry first) → fs ≡ kept ++ e ∷ [] → kept_entry new e ≡ first → IsKept new e → PairsSoFar new fs rest all
+pub pair_after : (written : List ℕ) (kept : List KeptEntry) (first : Entry) (rest all : List Entry) (n : ℕ) (e : KeptEntry) (new : List ℕ)
+    (fs : List KeptEntry) → PairsSoFar written kept (first ∷ rest) all → n ≡ length kept → keys_check n first.private_key first.public_key ≡ Ok tt
+    → new ≡ written ++ entry_der (canonical_entry first) → fs ≡ kept ++ e ∷ [] → kept_entry new e ≡ first → IsKept new e → PairsSoFar new fs rest all
 unfolding then_pairs
 pair_after written kept first rest all n e new fs h at ok is push same one =
     let old : List Entry = map (kept_entry written) kept in
     let p = pushed written kept first e new fs h.are is push same one in
-    let checked : keys_check (length kept) first.private_key first.public_key ≡ Ok tt = ap (λ (k : ℕ). keys_check k first.private_key first.public_key) (sym at) ∙ ok in
+    let checked : keys_check (length kept) first.private_key first.public_key ≡ Ok tt =
+    ap (λ (k : ℕ). keys_check k first.private_key first.public_key) (sym at) ∙ ok in
     let fits = h.fits in
     let sum = length-append (entry_der (canonical_entry first)) (entries_der rest) in
     let long = ap length is ∙ length-append written (entry_der (canonical_entry first)) in

@@ -1,5 +1,6 @@
 -- What is kept of entries, as more bytes are written behind theirs.
-use Rattle.std.proofs.Common.{◌≡◌, ℕ, ◌+◌, ◌-◌, ◌<◌, ◌^◌, List, [], ◌∷◌, ◌++◌, length, take, drop, map, option_map, Option, Some, None, IfSome, refl, sym, ap, subst, ◌∙◌, append-nil, length-append, length-drop, arith, if◌then◌else◌}
+use Rattle.std.proofs.Common.{◌≡◌, ℕ, ◌+◌, ◌-◌, ◌<◌, ◌^◌, List, [], ◌∷◌, ◌++◌, length, take, drop, map, option_map, Option, Some, None, IfSome, refl, sym, ap}
+use Rattle.std.proofs.Common.{subst, ◌∙◌, append-nil, length-append, length-drop, arith, if◌then◌else◌}
 use Rattle.std.proofs.lemmas.Grind.{flat_map-append}
 use Rattle.std.proofs.lemmas.List.{drop-append-le, map-append, take-append-le}
 use Rattle.std.specs.List.{flat_map}
@@ -112,7 +113,9 @@ pub record Pushed (old : List ℕ) (es : List KeptEntry) (v : Entry) (new : List
 pub no_entries : AreWritten [] []
 no_entries = record { kept = tt; are = refl }
 
-pub pushed_at : (old : List ℕ) (es : List KeptEntry) (v : Entry) (e : KeptEntry) → AreWritten old es → kept_entry (old ++ entry_der (canonical_entry v)) e ≡ v → IsKept (old ++ entry_der (canonical_entry v)) e → Pushed old es v (old ++ entry_der (canonical_entry v)) (es ++ e ∷ [])
+pub pushed_at : (old : List ℕ) (es : List KeptEntry) (v : Entry) (e : KeptEntry) → AreWritten old es
+    → kept_entry (old ++ entry_der (canonical_entry v)) e ≡ v → IsKept (old ++ entry_der (canonical_entry v)) e
+    → Pushed old es v (old ++ entry_der (canonical_entry v)) (es ++ e ∷ [])
 pushed_at old es v e h is one =
     let more : List ℕ = entry_der (canonical_entry v) in
     let new : List ℕ = old ++ more in
@@ -130,7 +133,8 @@ pushed_at old es v e h is one =
     }
 
 -- and as a loop comes by it
-pub pushed : (old : List ℕ) (es : List KeptEntry) (v : Entry) (e : KeptEntry) (new : List ℕ) (fs : List KeptEntry) → AreWritten old es → new ≡ old ++ entry_der (canonical_entry v) → fs ≡ es ++ e ∷ [] → kept_entry new e ≡ v → IsKept new e → Pushed old es v new fs
+pub pushed : (old : List ℕ) (es : List KeptEntry) (v : Entry) (e : KeptEntry) (new : List ℕ) (fs : List KeptEntry) → AreWritten old es
+    → new ≡ old ++ entry_der (canonical_entry v) → fs ≡ es ++ e ∷ [] → kept_entry new e ≡ v → IsKept new e → Pushed old es v new fs
 pushed old es v e new fs h written kept is one =
     let at : Pushed old es v (old ++ entry_der (canonical_entry v)) (es ++ e ∷ []) = pushed_at old es v e h (rw written at is) (rw written at one) in
     let first : Pushed old es v new (es ++ e ∷ []) = subst (λ (s : List ℕ). Pushed old es v s (es ++ e ∷ [])) (sym written) at in

@@ -1,5 +1,6 @@
 -- The canonical text of an id that was read is read as that id, and the name of a trust domain that was read as that trust domain.
-use Rattle.std.proofs.Common.{◌≡◌, ◌<◌, ◌==◌, ◌||◌, Bool, true, false, cond, List, [], ◌∷◌, ◌++◌, ℕ, nat_eq, map, length, codes, Result, Ok, Err, refl, ap, subst, ◌∙◌, arith, lit<, if◌then◌else◌}
+use Rattle.std.proofs.Common.{◌≡◌, ◌<◌, ◌==◌, ◌||◌, Bool, true, false, cond, List, [], ◌∷◌, ◌++◌, ℕ, nat_eq, map, length, codes, Result, Ok, Err, refl, ap}
+use Rattle.std.proofs.Common.{subst, ◌∙◌, arith, lit<, if◌then◌else◌}
 use Rattle.std.proofs.lemmas.Bool.Decides.{nat_tests}
 use Rattle.std.proofs.lemmas.Str.{IsUtf8-append, IsUtf8-from_ascii}
 use Rattle.std.proofs.lemmas.Str.Ascii.{IsAscii-cons, IsAscii-nil}
@@ -13,7 +14,8 @@ use Rattle.spiffe_id.specs.declared.error.SpiffeIdError.{SpiffeIdError}
 use Rattle.spiffe_id.specs.declared.error.SpiffeIdError.TheVariants.{BadPathSegmentChar, DotSegment, Empty, EmptySegment, TrailingSlash, WrongScheme}
 use Rattle.spiffe_id.specs.Scheme.{after_scheme}
 use Rattle.spiffe_id.specs.SpiffeId.{Id, canonical, id_of, id_parts, id_text, parts_after, path_from}
-use Rattle.spiffe_id.specs.TrustDomain.{IsTrustDomain, checked_trust_domain, contains_text, is_name_byte, is_slash, trust_domain_check, trust_domain_of, written_trust_domain}
+use Rattle.spiffe_id.specs.TrustDomain.{IsTrustDomain, checked_trust_domain, contains_text, is_name_byte, is_slash, trust_domain_check, trust_domain_of}
+use Rattle.spiffe_id.specs.TrustDomain.{written_trust_domain}
 use Rattle.spiffe_id.proofs.LowerCase.{IsTrustDomain-lower, all_of, lower_utf8}
 use Rattle.spiffe_id.proofs.PathSegments.{path_from_is}
 use Rattle.spiffe_id.proofs.Reading.{id_of-id_text, trust_domain_of-name}
@@ -32,7 +34,8 @@ id_read text id e =
     let some = else_inverse (length text == 0) Empty (then_ok (after_scheme text) parts_after) p m.is in
     let behind = then_inverse (after_scheme text) parts_after p some in
     let rest = behind.value in
-    let first = then_inverse (trust_domain_check (before_first is_slash rest)) (λ _. then_ok (path_check (path_from rest)) (λ _. Ok (before_first is_slash rest, path_from rest))) p behind.gives in
+    let first = then_inverse (trust_domain_check (before_first is_slash rest))
+    (λ _. then_ok (path_check (path_from rest)) (λ _. Ok (before_first is_slash rest, path_from rest))) p behind.gives in
     let second = then_inverse (path_check (path_from rest)) (λ _. Ok (before_first is_slash rest, path_from rest)) p first.gives in
     let gives = second.gives in
     let same : (before_first is_slash rest, path_from rest) ≡ p = cc in
@@ -74,7 +77,8 @@ onto_ascii : (b : ℕ) (bs : List ℕ) (parts : List (List ℕ)) → (AreNames p
 onto_ascii b bs [] more h = let p = all_of b [] h.0 in IsAscii-cons b bs (name_small b p.0) (more tt)
 onto_ascii b bs (s ∷ parts) more h = let p = all_of b s h.0 in IsAscii-cons b bs (name_small b p.0) (more (p.1, h.1))
 
-split_ascii : (b : ℕ) (bs : List ℕ) (slash : Bool) → is_slash b ≡ slash → (AreNames (slice_split is_slash bs) → IsAscii bs) → AreNames (cond slash ([] ∷ slice_split is_slash bs) (onto_first b (slice_split is_slash bs))) → IsAscii (b ∷ bs)
+split_ascii : (b : ℕ) (bs : List ℕ) (slash : Bool) → is_slash b ≡ slash → (AreNames (slice_split is_slash bs) → IsAscii bs)
+    → AreNames (cond slash ([] ∷ slice_split is_slash bs) (onto_first b (slice_split is_slash bs))) → IsAscii (b ∷ bs)
 split_ascii b bs true is more h = IsAscii-cons b bs (slash_small b is) (more h.1)
 split_ascii b bs false is more h = onto_ascii b bs (slice_split is_slash bs) more h
 
@@ -88,14 +92,18 @@ path_ascii (b ∷ bs) h = let at = h.0 in IsAscii-cons b bs (omega arith) (segme
 
 scheme_ascii : IsAscii (codes "spiffe://")
 scheme_ascii =
-    IsAscii-cons 115 (codes "piffe://") (lit< tt) (IsAscii-cons 112 (codes "iffe://") (lit< tt) (IsAscii-cons 105 (codes "ffe://") (lit< tt) (IsAscii-cons 102 (codes "fe://") (lit< tt) (IsAscii-cons 102 (codes "e://") (lit< tt) (IsAscii-cons 101 (codes "://") (lit< tt) (IsAscii-cons 58 (codes "//") (lit< tt) (IsAscii-cons 47 (codes "/") (lit< tt) (IsAscii-cons 47 [] (lit< tt) IsAscii-nil))))))))
+    IsAscii-cons 115 (codes "piffe://") (lit< tt) (IsAscii-cons 112 (codes "iffe://") (lit< tt)
+    (IsAscii-cons 105 (codes "ffe://") (lit< tt) (IsAscii-cons 102 (codes "fe://") (lit< tt)
+    (IsAscii-cons 102 (codes "e://") (lit< tt) (IsAscii-cons 101 (codes "://") (lit< tt)
+    (IsAscii-cons 58 (codes "//") (lit< tt) (IsAscii-cons 47 (codes "/") (lit< tt) (IsAscii-cons 47 [] (lit< tt) IsAscii-nil))))))))
 
 -- the text of an id is UTF-8
 pub id_utf8 : (id : Id) → id_of (id_text id) ≡ Ok id → IsUtf8 (id_text id)
 id_utf8 id e =
     let read = id_read (id_text id) id e in
     IsUtf8-append (codes "spiffe://" ++ id.trust_domain) id.path
-    (IsUtf8-append (codes "spiffe://") id.trust_domain (IsUtf8-from_ascii (codes "spiffe://") scheme_ascii) (subst IsUtf8 read.domain.lower (lower_utf8 id.trust_domain read.domain.characters)))
+    (IsUtf8-append (codes "spiffe://") id.trust_domain (IsUtf8-from_ascii (codes "spiffe://") scheme_ascii)
+    (subst IsUtf8 read.domain.lower (lower_utf8 id.trust_domain read.domain.characters)))
     (IsUtf8-from_ascii id.path (path_ascii id.path read.path))
 
 checked_valid : (text w : List ℕ) → checked_trust_domain text ≡ Ok w → trust_domain_check w ≡ Ok tt
@@ -105,7 +113,9 @@ checked_valid text w e =
     let same : text ≡ w = cc in
     subst (λ (x : List ℕ). trust_domain_check x ≡ Ok tt) same f.is
 
-written_valid : (has has_half : Bool) (text w : List ℕ) → (if has then then_ok (after_scheme text) (λ rest. checked_trust_domain (before_first is_slash rest)) else (if has_half then Err WrongScheme else checked_trust_domain text)) ≡ Ok w → trust_domain_check w ≡ Ok tt
+written_valid : (has has_half : Bool) (text w : List ℕ) → (if has then then_ok (after_scheme text)
+    (λ rest. checked_trust_domain (before_first is_slash rest)) else (if has_half then Err WrongScheme else checked_trust_domain text)) ≡ Ok w
+    → trust_domain_check w ≡ Ok tt
 written_valid true half text w e =
     let f = then_inverse (after_scheme text) (λ rest. checked_trust_domain (before_first is_slash rest)) w e in
     checked_valid (before_first is_slash f.value) w f.gives
@@ -116,7 +126,8 @@ domain_valid : (text domain : List ℕ) → trust_domain_of text ≡ Ok domain �
 unfolding trust_domain_of written_trust_domain
 domain_valid text domain e =
     let m = map_inverse (written_trust_domain text) (map to_ascii_lowercase) domain e in
-    subst IsTrustDomain m.same (IsTrustDomain-lower m.value (written_valid (contains_text (codes "://") text) (contains_text (codes ":/") text) text m.value m.is))
+    subst IsTrustDomain m.same (IsTrustDomain-lower m.value (written_valid (contains_text (codes "://") text) (contains_text (codes ":/") text) text m.value
+    m.is))
 
 pub domain_again : (text domain : List ℕ) → trust_domain_of text ≡ Ok domain → trust_domain_of domain ≡ Ok domain
 domain_again text domain e = trust_domain_of-name domain (domain_valid text domain e)

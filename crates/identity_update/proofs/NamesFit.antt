@@ -1,5 +1,6 @@
 -- The canonical text of an id or of a trust domain is no longer than the text that it was read from.
-use Rattle.std.proofs.Common.{◌≡◌, ℕ, ◌+◌, ◌≤◌, ◌==◌, subst, Bool, true, false, List, [], ◌∷◌, ◌++◌, length, take, drop, map, codes, nat_eq, Option, Some, None, Ok, Err, refl, sym, ap, ◌∙◌, length-append, length-take, length-drop, arith, if◌then◌else◌}
+use Rattle.std.proofs.Common.{◌≡◌, ℕ, ◌+◌, ◌≤◌, ◌==◌, subst, Bool, true, false, List, [], ◌∷◌, ◌++◌, length, take, drop, map, codes, nat_eq, Option, Some}
+use Rattle.std.proofs.Common.{None, Ok, Err, refl, sym, ap, ◌∙◌, length-append, length-take, length-drop, arith, if◌then◌else◌}
 use Rattle.std.proofs.lemmas.List.{length-map}
 use Rattle.std.proofs.lemmas.Slice.Eq.{bytes_eq-Decides}
 use Rattle.std.proofs.lemmas.List.{take-append-drop}
@@ -25,7 +26,8 @@ starts_long text separator e =
 record Parted (text separator : List ℕ) (p : List ℕ × List ℕ) : Type 0 where
   fits : length p.0 + length separator + length p.1 ≤ length text
 
-behind : (b : ℕ) (bs separator : List ℕ) (p : List ℕ × List ℕ) (o : Option (List ℕ × List ℕ)) → ((q : List ℕ × List ℕ) → o ≡ Some q → Parted bs separator q) → option_map (λ q. (b ∷ q.0, q.1)) o ≡ Some p → Parted (b ∷ bs) separator p
+behind : (b : ℕ) (bs separator : List ℕ) (p : List ℕ × List ℕ) (o : Option (List ℕ × List ℕ)) → ((q : List ℕ × List ℕ) → o ≡ Some q → Parted bs separator q)
+    → option_map (λ q. (b ∷ q.0, q.1)) o ≡ Some p → Parted (b ∷ bs) separator p
 behind b bs separator p None more e = cc
 behind b bs separator p (Some q) more e =
     let same : (b ∷ q.0, q.1) ≡ p = cc in
@@ -33,8 +35,10 @@ behind b bs separator p (Some q) more e =
     let fits = m.fits in
     subst (Parted (b ∷ bs) separator) same (record { fits = omega arith })
 
-split_here : (b : ℕ) (bs separator : List ℕ) (t : Bool) (p : List ℕ × List ℕ) → starts_with nat_eq (b ∷ bs) separator ≡ t → ((q : List ℕ × List ℕ) → split_first separator bs ≡ Some q → Parted bs separator q)
-    → (if t then Some ([], drop (length separator) (b ∷ bs)) else option_map (λ q. (b ∷ q.0, q.1)) (split_first separator bs)) ≡ Some p → Parted (b ∷ bs) separator p
+split_here : (b : ℕ) (bs separator : List ℕ) (t : Bool) (p : List ℕ × List ℕ) → starts_with nat_eq (b ∷ bs) separator ≡ t
+    → ((q : List ℕ × List ℕ) → split_first separator bs ≡ Some q → Parted bs separator q)
+    → (if t then Some ([], drop (length separator) (b ∷ bs)) else option_map (λ q. (b ∷ q.0, q.1)) (split_first separator bs)) ≡ Some p
+    → Parted (b ∷ bs) separator p
 split_here b bs separator true p is more e =
     let same : ([], drop (length separator) (b ∷ bs)) ≡ p = cc in
     let long = starts_long (b ∷ bs) separator is in
@@ -46,7 +50,8 @@ split_fits : (text separator : List ℕ) (p : List ℕ × List ℕ) → split_fi
 split_fits [] separator p e = cc
 split_fits (b ∷ bs) separator p e = split_here b bs separator (starts_with nat_eq (b ∷ bs) separator) p refl (λ q. split_fits bs separator q) e
 
-scheme_at : (text rest : List ℕ) (o : Option (List ℕ × List ℕ)) → ((q : List ℕ × List ℕ) → o ≡ Some q → Parted text (codes "://") q) → if_spiffe_scheme o ≡ Ok rest → length rest + 9 ≤ length text
+scheme_at : (text rest : List ℕ) (o : Option (List ℕ × List ℕ)) → ((q : List ℕ × List ℕ) → o ≡ Some q → Parted text (codes "://") q)
+    → if_spiffe_scheme o ≡ Ok rest → length rest + 9 ≤ length text
 scheme_at text rest None parted e = cc
 scheme_at text rest (Some q) parted e =
     let passed = if_inverse (is_spiffe_scheme q.0) (Ok q.1) WrongScheme rest e in
@@ -64,7 +69,8 @@ scheme_fits text rest e = scheme_at text rest (split_first (codes "://") text) (
 
 parts_fit : (rest : List ℕ) (p : List ℕ × List ℕ) → parts_after rest ≡ Ok p → length p.0 + length p.1 ≡ length rest
 parts_fit rest p e =
-    let first = then_inverse (trust_domain_check (before_first is_slash rest)) (λ _. then_ok (path_check (path_from rest)) (λ _. Ok (before_first is_slash rest, path_from rest))) p e in
+    let first = then_inverse (trust_domain_check (before_first is_slash rest))
+    (λ _. then_ok (path_check (path_from rest)) (λ _. Ok (before_first is_slash rest, path_from rest))) p e in
     let second = then_inverse (path_check (path_from rest)) (λ _. Ok (before_first is_slash rest, path_from rest)) p first.gives in
     let gives = second.gives in
     let same : (before_first is_slash rest, path_from rest) ≡ p = cc in
@@ -91,7 +97,9 @@ id_fits text id e =
 checked_same : (text w : List ℕ) → checked_trust_domain text ≡ Ok w → text ≡ w
 checked_same text w e = let f = then_inverse (trust_domain_check text) (λ _. Ok text) w e in let gives = f.gives in cc
 
-written_fits : (has has_half : Bool) (text w : List ℕ) → (if has then then_ok (after_scheme text) (λ rest. checked_trust_domain (before_first is_slash rest)) else (if has_half then Err WrongScheme else checked_trust_domain text)) ≡ Ok w → length w ≤ length text
+written_fits : (has has_half : Bool) (text w : List ℕ) → (if has then then_ok (after_scheme text)
+    (λ rest. checked_trust_domain (before_first is_slash rest)) else (if has_half then Err WrongScheme else checked_trust_domain text)) ≡ Ok w
+    → length w ≤ length text
 written_fits true half text w e =
     let f = then_inverse (after_scheme text) (λ rest. checked_trust_domain (before_first is_slash rest)) w e in
     let scheme = scheme_fits text f.value f.is in

@@ -1,5 +1,6 @@
 -- The rules of parts, tried in turn.
-use Rattle.std.proofs.Common.{◌≡◌, ℕ, ◌+◌, ◌<◌, ◌≤◌, ◌^◌, nat_lt, Bool, true, false, List, [], ◌∷◌, ◌++◌, length, map, take, drop, get_or, Option, Some, None, IfSome, Result, Ok, Err, IsOk, inl, inr, if◌then◌else◌, sym, ap, subst, ◌∙◌, arith}
+use Rattle.std.proofs.Common.{◌≡◌, ℕ, ◌+◌, ◌<◌, ◌≤◌, ◌^◌, nat_lt, Bool, true, false, List, [], ◌∷◌, ◌++◌, length, map, take, drop, get_or, Option, Some, None}
+use Rattle.std.proofs.Common.{IfSome, Result, Ok, Err, IsOk, inl, inr, if◌then◌else◌, sym, ap, subst, ◌∙◌, arith}
 use Rattle.std.proofs.lemmas.Bool.Decides.{nat_tests}
 use Rattle.std.proofs.lemmas.List.{drop_more, map-append, take_more}
 use Rattle.std.specs.List.{AllByRecursion}
@@ -35,12 +36,15 @@ pub record PartsHold (u : UpdateParts) : Type 0 where
   pub key_sets : key_sets_check 0 u.bundles ≡ Ok tt
 
 -- the last rule decides where the others hold
-pub parts_judged : (u : UpdateParts) (r : Result (Unit {0}) UpdateError) → PartsHold u → members_check 0 u.bundles u.entries ≡ r → parts_verdict u ≡ map_ok (λ _. u) r
+pub parts_judged : (u : UpdateParts) (r : Result (Unit {0}) UpdateError) → PartsHold u → members_check 0 u.bundles u.entries ≡ r
+    → parts_verdict u ≡ map_ok (λ _. u) r
 unfolding parts_verdict
 parts_judged u r h members =
     let last : Result UpdateParts UpdateError = map_ok (λ _. u) (members_check 0 u.bundles u.entries) in
-    ap (λ (x : Result (Unit {0}) UpdateError). then_ok x (λ _. then_ok (purpose_check u.entries u.reason) (λ _. then_ok (pairs_check 0 u.entries) (λ _. then_ok (key_sets_check 0 u.bundles) (λ _. last))))) h.fits
-    ∙ ap (λ (x : Result (Unit {0}) UpdateError). then_ok x (λ _. then_ok (pairs_check 0 u.entries) (λ _. then_ok (key_sets_check 0 u.bundles) (λ _. last)))) h.purpose
+    ap (λ (x : Result (Unit {0}) UpdateError). then_ok x (λ _. then_ok (purpose_check u.entries u.reason)
+    (λ _. then_ok (pairs_check 0 u.entries) (λ _. then_ok (key_sets_check 0 u.bundles) (λ _. last))))) h.fits
+    ∙ ap (λ (x : Result (Unit {0}) UpdateError). then_ok x (λ _. then_ok (pairs_check 0 u.entries) (λ _. then_ok (key_sets_check 0 u.bundles) (λ _. last))))
+    h.purpose
     ∙ ap (λ (x : Result (Unit {0}) UpdateError). then_ok x (λ _. then_ok (key_sets_check 0 u.bundles) (λ _. last))) h.pairs
     ∙ ap (λ (x : Result (Unit {0}) UpdateError). then_ok x (λ _. last)) h.key_sets
     ∙ ap (λ (x : Result (Unit {0}) UpdateError). map_ok (λ _. u) x) members
@@ -68,7 +72,8 @@ are_key_sets n (b ∷ bs) e =
     let first = then_inverse (map_refusal (Authorities n) (key_set_of b.jwks)) (λ _. key_sets_check (n + 1) bs) tt e in
     (read_is_ok b.jwks first.value (refusal_inverse (Authorities n) (key_set_of b.jwks) first.value first.is), are_key_sets (n + 1) bs first.gives)
 
-pub parts_lawful : (u : UpdateParts) → PartsHold u → members_check 0 u.bundles u.entries ≡ Ok tt → AllByRecursion HasCanonicalId u.entries → AllByRecursion HasCanonicalDomain u.bundles → IfSome u.reason IsReasonText → IsLawful u
+pub parts_lawful : (u : UpdateParts) → PartsHold u → members_check 0 u.bundles u.entries ≡ Ok tt → AllByRecursion HasCanonicalId u.entries
+    → AllByRecursion HasCanonicalDomain u.bundles → IfSome u.reason IsReasonText → IsLawful u
 parts_lawful u h members ids domains reason = record {
   purpose = one_purpose u.entries u.reason h.purpose;
   reason = reason;
@@ -84,14 +89,19 @@ all_push : {A : Type 0} (P : A → Type 0) (xs : List A) (x : A) → AllByRecurs
 all_push P [] x h p = (p, tt)
 all_push P (y ∷ xs) x h p = (h.0, all_push P xs x h.1 p)
 
-taken_more : {A B : Type 0} (f : A → B) (n : ℕ) (xs : List A) (item : A) → n < length xs → item ≡ get_or xs n item → map f (take (n + 1) xs) ≡ map f (take n xs) ++ f item ∷ []
+taken_more : {A B : Type 0} (f : A → B) (n : ℕ) (xs : List A) (item : A) → n < length xs → item ≡ get_or xs n item
+    → map f (take (n + 1) xs) ≡ map f (take n xs) ++ f item ∷ []
 taken_more f n xs item lt is =
     ap (map f) (take_more xs n item lt ∙ ap (λ x. take n xs ++ x ∷ []) (sym is)) ∙ map-append f (take n xs) (item ∷ [])
 
-pub all_more : {A B : Type 0} (f : A → B) (P : B → Type 0) (n : ℕ) (xs : List A) (item : A) → n < length xs → item ≡ get_or xs n item → AllByRecursion P (map f (take n xs)) → P (f item) → AllByRecursion P (map f (take (n + 1) xs))
-all_more {B = B} f P n xs item lt is h p = subst (λ (x : List B). AllByRecursion P x) (sym (taken_more f n xs item lt is)) (all_push P (map f (take n xs)) (f item) h p)
+pub all_more : {A B : Type 0} (f : A → B) (P : B → Type 0) (n : ℕ) (xs : List A) (item : A) → n < length xs → item ≡ get_or xs n item
+    → AllByRecursion P (map f (take n xs)) → P (f item) → AllByRecursion P (map f (take (n + 1) xs))
+all_more {B = B} f P n xs item lt is h p = subst (λ (x : List B). AllByRecursion P x) (sym (taken_more f n xs item lt is))
+    (all_push P (map f (take n xs)) (f item) h p)
 
-pub borrowed_more : (n : ℕ) (xs : List EntryParts) (item : EntryParts) (old new : List CheckedEntry) (borrowed : CheckedEntry) → n < length xs → item ≡ get_or xs n item → checked_entry borrowed ≡ plain_entry item → new ≡ old ++ borrowed ∷ [] → map checked_entry old ≡ map plain_entry (take n xs) → map checked_entry new ≡ map plain_entry (take (n + 1) xs)
+pub borrowed_more : (n : ℕ) (xs : List EntryParts) (item : EntryParts) (old new : List CheckedEntry) (borrowed : CheckedEntry) → n < length xs
+    → item ≡ get_or xs n item → checked_entry borrowed ≡ plain_entry item → new ≡ old ++ borrowed ∷ [] → map checked_entry old ≡ map plain_entry (take n xs)
+    → map checked_entry new ≡ map plain_entry (take (n + 1) xs)
 borrowed_more n xs item old new borrowed lt is same pushed so =
     ap (map checked_entry) pushed
     ∙ map-append checked_entry old (borrowed ∷ [])
@@ -99,7 +109,9 @@ borrowed_more n xs item old new borrowed lt is same pushed so =
     ∙ ap (λ (x : Entry). map plain_entry (take n xs) ++ x ∷ []) same
     ∙ sym (taken_more plain_entry n xs item lt is)
 
-pub set_taken : (n : ℕ) (xs : List BundleParts) (item : BundleParts) (old new : Bundles) (keys : KeysOfDomain) → n < length xs → item ≡ get_or xs n item → old ≡ bundle_map (map plain_bundle (take n xs)) → new ≡ with_bundle old keys → keys ≡ keys_of_bundle (plain_bundle item) → new ≡ bundle_map (map plain_bundle (take (n + 1) xs))
+pub set_taken : (n : ℕ) (xs : List BundleParts) (item : BundleParts) (old new : Bundles) (keys : KeysOfDomain) → n < length xs → item ≡ get_or xs n item
+    → old ≡ bundle_map (map plain_bundle (take n xs)) → new ≡ with_bundle old keys → keys ≡ keys_of_bundle (plain_bundle item)
+    → new ≡ bundle_map (map plain_bundle (take (n + 1) xs))
 set_taken n xs item old new keys lt is so added named =
     added
     ∙ ap (λ (k : KeysOfDomain). with_bundle old k) named
@@ -107,17 +119,23 @@ set_taken n xs item old new keys lt is so added named =
     ∙ sym (map_push (map plain_bundle (take n xs)) (plain_bundle item))
     ∙ ap bundle_map (sym (taken_more plain_bundle n xs item lt is))
 
-key_sets_here : (n : ℕ) (xs : List BundleParts) (item : BundleParts) → n < length xs → item ≡ get_or xs n item → key_sets_check n (map plain_bundle (drop n xs)) ≡ then_ok (map_refusal (Authorities n) (key_set_of item.jwks.items)) (λ _. key_sets_check (n + 1) (map plain_bundle (drop (n + 1) xs)))
+key_sets_here : (n : ℕ) (xs : List BundleParts) (item : BundleParts) → n < length xs → item ≡ get_or xs n item
+    → key_sets_check n (map plain_bundle (drop n xs)) ≡ then_ok (map_refusal (Authorities n) (key_set_of item.jwks.items))
+    (λ _. key_sets_check (n + 1) (map plain_bundle (drop (n + 1) xs)))
 key_sets_here n xs item lt is =
     let at : drop n xs ≡ item ∷ drop (n + 1) xs = drop_more xs n item lt ∙ ap (λ x. x ∷ drop (n + 1) xs) (sym is) in
     ap (λ (x : List BundleParts). key_sets_check n (map plain_bundle x)) at
 
-pub key_sets_more : (n : ℕ) (xs : List BundleParts) (item : BundleParts) (keys : KeySet) (all : Result (Unit {0}) UpdateError) → n < length xs → item ≡ get_or xs n item → map_refusal (Authorities n) (key_set_of item.jwks.items) ≡ Ok keys → key_sets_check n (map plain_bundle (drop n xs)) ≡ all → key_sets_check (n + 1) (map plain_bundle (drop (n + 1) xs)) ≡ all
+pub key_sets_more : (n : ℕ) (xs : List BundleParts) (item : BundleParts) (keys : KeySet) (all : Result (Unit {0}) UpdateError) → n < length xs
+    → item ≡ get_or xs n item → map_refusal (Authorities n) (key_set_of item.jwks.items) ≡ Ok keys → key_sets_check n (map plain_bundle (drop n xs)) ≡ all
+    → key_sets_check (n + 1) (map plain_bundle (drop (n + 1) xs)) ≡ all
 key_sets_more n xs item keys all lt is ok so =
     let next : Result (Unit {0}) UpdateError = key_sets_check (n + 1) (map plain_bundle (drop (n + 1) xs)) in
     sym (ap (λ (r : Result KeySet UpdateError). then_ok r (λ _. next)) ok) ∙ sym (key_sets_here n xs item lt is) ∙ so
 
-pub key_sets_refused : (n : ℕ) (xs : List BundleParts) (item : BundleParts) (all : Result (Unit {0}) UpdateError) (e : UpdateError) → n < length xs → item ≡ get_or xs n item → IsRefusal (map_refusal (Authorities n) (key_set_of item.jwks.items)) e → key_sets_check n (map plain_bundle (drop n xs)) ≡ all → IsRefusal all e
+pub key_sets_refused : (n : ℕ) (xs : List BundleParts) (item : BundleParts) (all : Result (Unit {0}) UpdateError) (e : UpdateError) → n < length xs
+    → item ≡ get_or xs n item → IsRefusal (map_refusal (Authorities n) (key_set_of item.jwks.items)) e
+    → key_sets_check n (map plain_bundle (drop n xs)) ≡ all → IsRefusal all e
 key_sets_refused n xs item all e lt is (inl broken) so =
     let next : Result (Unit {0}) UpdateError = key_sets_check (n + 1) (map plain_bundle (drop (n + 1) xs)) in
     inl (sym so ∙ key_sets_here n xs item lt is ∙ ap (λ (r : Result KeySet UpdateError). then_ok r (λ _. next)) broken)

@@ -14,7 +14,8 @@ use Rattle.identity_update.specs.Parts.{UpdateParts}
 use Rattle.identity_update.specs.Reading.{BreaksRule, HasLength, IsNoDocument, Refuses, Writes, WritesBytes, WritesDocument}
 use Rattle.identity_update.specs.Verdict.{IsRefusal, verdict}
 use Rattle.identity_update.specs.declared.error.UpdateError.{UpdateError}
-use Rattle.identity_update.specs.declared.error.UpdateError.TheVariants.{AlgorithmMismatch, Authorities, Document, Domain, MissingBundle, MissingRequiredField, OutOfMemory, PublicKeyMismatch, RevisionsUsedUp, Subject, Text, WithdrawalWithEntries}
+use Rattle.identity_update.specs.declared.error.UpdateError.TheVariants.{AlgorithmMismatch, Authorities, Document, Domain, MissingBundle, MissingRequiredField}
+use Rattle.identity_update.specs.declared.error.UpdateError.TheVariants.{OutOfMemory, PublicKeyMismatch, RevisionsUsedUp, Subject, Text, WithdrawalWithEntries}
 use Rattle.identity_update.proofs.RuleLaws.{IsRule, verdict_rules}
 
 -- a text writes one list of bytes
@@ -58,7 +59,8 @@ same_cause bytes _ d x y = absurd x
 data Refusal (width : ℕ) (text : List ℕ) (e : UpdateError) : Type 0 where
   by_length : e ≡ Text base64.InvalidLength → (HasLength width text → ⊥) → Refusal width text e
   by_encoding : e ≡ Text base64.InvalidEncoding → HasLength width text → ((bytes : List ℕ) → WritesBytes width text bytes → ⊥) → Refusal width text e
-  by_document : (cause : Error) (bytes : List ℕ) → e ≡ Document cause → HasLength width text → WritesBytes width text bytes → IsNoDocument bytes cause → Refusal width text e
+  by_document : (cause : Error) (bytes : List ℕ) → e ≡ Document cause → HasLength width text → WritesBytes width text bytes → IsNoDocument bytes cause
+      → Refusal width text e
   by_rule : (w : WrittenUpdate) → WritesDocument width text w → verdict w ≡ Err e → Refusal width text e
 
 rule_refusal : (width : ℕ) (text : List ℕ) (e : UpdateError) → BreaksRule width text e → Refusal width text e
@@ -84,7 +86,8 @@ writes_no_refusal : (width : ℕ) (text : List ℕ) (u : UpdateParts) (e : Updat
 writes_no_refusal width text u e one x (by_length is none) = none x.document.has
 writes_no_refusal width text u e one x (by_encoding is has none) = none x.document.bytes x.document.are
 writes_no_refusal width text u e one x (by_document cause bytes is has are none) =
-    no_document bytes x.written cause (subst (λ (b : List ℕ). ReadsUpdate b x.written) (same_bytes width text x.document.bytes bytes one has x.document.are are) x.document.document) none
+    no_document bytes x.written cause (subst (λ (b : List ℕ). ReadsUpdate b x.written)
+    (same_bytes width text x.document.bytes bytes one has x.document.are are) x.document.document) none
 writes_no_refusal width text u e one x (by_rule w writes is) =
     let same = ap verdict (same_written width text x.written w one x.document writes) in
     let lawful = x.lawful in
@@ -95,7 +98,8 @@ pub never_both : (width : ℕ) (text : List ℕ) (u : UpdateParts) (e : UpdateEr
 never_both width text u OutOfMemory one x r = refl
 never_both width text u e one x r = absurd (writes_no_refusal width text u e one x (refusal_of width text e (λ same. cc) r))
 
-document_and_rule : (width : ℕ) (text bytes : List ℕ) (cause : Error) (w : WrittenUpdate) → WritesOne → HasLength width text → WritesBytes width text bytes → IsNoDocument bytes cause → WritesDocument width text w → ⊥
+document_and_rule : (width : ℕ) (text bytes : List ℕ) (cause : Error) (w : WrittenUpdate) → WritesOne → HasLength width text → WritesBytes width text bytes
+    → IsNoDocument bytes cause → WritesDocument width text w → ⊥
 document_and_rule width text bytes cause w one has are none writes =
     no_document bytes w cause (subst (λ (b : List ℕ). ReadsUpdate b w) (same_bytes width text writes.bytes bytes one has writes.are are) writes.document) none
 
@@ -113,18 +117,22 @@ same_refusal width text e f one (by_document cause bytes is has are none) (by_en
 same_refusal width text e f one (by_document cause bytes is has are none) (by_document cause' bytes' is' has' are' none') =
     let same = same_bytes width text bytes bytes' one has are are' in
     is ∙ ap (λ (c : Error). Document c) (same_cause bytes' cause cause' (subst (λ (b : List ℕ). IsNoDocument b cause) same none) none') ∙ sym is'
-same_refusal width text e f one (by_document cause bytes is has are none) (by_rule w writes is') = absurd (document_and_rule width text bytes cause w one has are none writes)
+same_refusal width text e f one (by_document cause bytes is has are none) (by_rule w writes is') =
+    absurd (document_and_rule width text bytes cause w one has are none writes)
 same_refusal width text e f one (by_rule w writes is) (by_length is' none') = absurd (none' writes.has)
 same_refusal width text e f one (by_rule w writes is) (by_encoding is' has' none') = absurd (none' writes.bytes writes.are)
-same_refusal width text e f one (by_rule w writes is) (by_document cause bytes is' has' are' none') = absurd (document_and_rule width text bytes cause w one has' are' none' writes)
+same_refusal width text e f one (by_rule w writes is) (by_document cause bytes is' has' are' none') =
+    absurd (document_and_rule width text bytes cause w one has' are' none' writes)
 same_refusal width text e f one (by_rule w writes is) (by_rule w' writes' is') =
     let same = ap verdict (same_written width text w w' one writes writes') in
     cc
 
-pub one_refusal : (width : ℕ) (text : List ℕ) (e f : UpdateError) → WritesOne → Refuses width text e → Refuses width text f → e ≢ OutOfMemory → f ≢ OutOfMemory → e ≡ f
+pub one_refusal : (width : ℕ) (text : List ℕ) (e f : UpdateError) → WritesOne → Refuses width text e → Refuses width text f → e ≢ OutOfMemory
+    → f ≢ OutOfMemory → e ≡ f
 one_refusal width text e f one x y some some' = same_refusal width text e f one (refusal_of width text e some x) (refusal_of width text f some' y)
 
-breaks_rule : (width : ℕ) (text : List ℕ) (w : WrittenUpdate) (e : UpdateError) → WritesDocument width text w → IsRule e → verdict w ≡ Err e → Refuses width text e
+breaks_rule : (width : ℕ) (text : List ℕ) (w : WrittenUpdate) (e : UpdateError) → WritesDocument width text w → IsRule e → verdict w ≡ Err e
+    → Refuses width text e
 breaks_rule width text w RevisionsUsedUp writes rule is = absurd rule
 breaks_rule width text w (Text cause) writes rule is = absurd rule
 breaks_rule width text w (Document cause) writes rule is = absurd rule
@@ -138,7 +146,8 @@ breaks_rule width text w (Domain n cause) writes rule is = (w, writes, is)
 breaks_rule width text w (Authorities n cause) writes rule is = (w, writes, is)
 breaks_rule width text w (MissingBundle n) writes rule is = (w, writes, is)
 
-pub rule_refused : (width : ℕ) (text : List ℕ) (w : WrittenUpdate) (e : UpdateError) → WritesDocument width text w → IsRefusal (verdict w) e → Refuses width text e
+pub rule_refused : (width : ℕ) (text : List ℕ) (w : WrittenUpdate) (e : UpdateError) → WritesDocument width text w → IsRefusal (verdict w) e
+    → Refuses width text e
 rule_refused width text w e writes (inl is) = breaks_rule width text w e writes (verdict_rules w e is) is
 rule_refused width text w e writes (inr memory) = rw memory tt
 

@@ -9,9 +9,11 @@ use Rattle.pkcs8.specs.PlainPrivateKey.{PlainPrivateKey}
 use Rattle.update_document.specs.Written.{WrittenBundle, WrittenEntry, WrittenUpdate}
 use Rattle.identity_update.specs.Parts.{Bundle, Entry}
 use Rattle.spki.specs.Same.{same_algorithm}
-use Rattle.identity_update.specs.Verdict.{bundle_check, bundles_check, entries_check, entry_check, has_bundle, holds_no_other, keys_check, map_refusal, members_check, purpose_check, verdict}
+use Rattle.identity_update.specs.Verdict.{bundle_check, bundles_check, entries_check, entry_check, has_bundle, holds_no_other, keys_check, map_refusal}
+use Rattle.identity_update.specs.Verdict.{members_check, purpose_check, verdict}
 use Rattle.identity_update.specs.declared.error.UpdateError.{UpdateError}
-use Rattle.identity_update.specs.declared.error.UpdateError.TheVariants.{AlgorithmMismatch, Authorities, Document, Domain, MissingBundle, OutOfMemory, PublicKeyMismatch, RevisionsUsedUp, Subject, Text}
+use Rattle.identity_update.specs.declared.error.UpdateError.TheVariants.{AlgorithmMismatch, Authorities, Document, Domain, MissingBundle, OutOfMemory}
+use Rattle.identity_update.specs.declared.error.UpdateError.TheVariants.{PublicKeyMismatch, RevisionsUsedUp, Subject, Text}
 
 -- a rule of the update itself, and not of its text, of its document or of a source
 abbrev pub IsRule : UpdateError → Type 0
@@ -21,7 +23,8 @@ IsRule (Document cause) = ⊥
 IsRule OutOfMemory = ⊥
 IsRule _ = Unit {0}
 
-then_rules : {A B : Type 0} (r : Result A UpdateError) (next : A → Result B UpdateError) → IfErr r IsRule → ((a : A) → IfErr (next a) IsRule) → IfErr (then_ok r next) IsRule
+then_rules : {A B : Type 0} (r : Result A UpdateError) (next : A → Result B UpdateError) → IfErr r IsRule → ((a : A) → IfErr (next a) IsRule)
+    → IfErr (then_ok r next) IsRule
 then_rules (Ok a) next h k = k a
 then_rules (Err e) next h k = h
 
@@ -45,7 +48,8 @@ purpose_rules (e ∷ es) (Some reason) = tt
 
 keys_rules : (n : ℕ) (private : PlainPrivateKey) (public : PlainPublicKey) → IfErr (keys_check n private public) IsRule
 keys_rules n private public =
-    if_rules (same_algorithm private.algorithm public.algorithm) _ (AlgorithmMismatch n) (if_rules (holds_no_other private.public_key public.key) (Ok tt) (PublicKeyMismatch n) tt tt) tt
+    if_rules (same_algorithm private.algorithm public.algorithm) _ (AlgorithmMismatch n)
+    (if_rules (holds_no_other private.public_key public.key) (Ok tt) (PublicKeyMismatch n) tt tt) tt
 
 entry_rules : (n : ℕ) (e : WrittenEntry) → IfErr (entry_check n e) IsRule
 entry_rules n e = then_rules _ _ (seen_rules (Subject n) (id_of e.text) (λ cause. tt)) (λ id. map_rules _ _ (keys_rules n e.private_key e.public_key))
@@ -55,7 +59,8 @@ entries_rules n [] = tt
 entries_rules n (e ∷ es) = then_rules _ _ (entry_rules n e) (λ first. map_rules _ _ (entries_rules (n + 1) es))
 
 bundle_rules : (n : ℕ) (b : WrittenBundle) → IfErr (bundle_check n b) IsRule
-bundle_rules n b = then_rules _ _ (seen_rules (Domain n) (trust_domain_of b.text) (λ cause. tt)) (λ domain. map_rules _ _ (seen_rules (Authorities n) (key_set_of b.jwks) (λ cause. tt)))
+bundle_rules n b = then_rules _ _ (seen_rules (Domain n) (trust_domain_of b.text) (λ cause. tt))
+    (λ domain. map_rules _ _ (seen_rules (Authorities n) (key_set_of b.jwks) (λ cause. tt)))
 
 bundles_rules : (n : ℕ) (bs : List WrittenBundle) → IfErr (bundles_check n bs) IsRule
 bundles_rules n [] = tt

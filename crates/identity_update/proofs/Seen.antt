@@ -29,7 +29,9 @@ borrowed_texts = record {
   public_key = λ v. bits_content (plain_bits_ref v);
 }
 
-same_tail : (t : Option AttributesRef) (k : Option BitStringRef) → after_key_written borrowed_texts.attributes borrowed_texts.public_key t k ≡ after_key_written (λ content. content) bits_content (option_map attributes_bytes_ref t) (option_map plain_bits_ref k)
+same_tail : (t : Option AttributesRef) (k : Option BitStringRef)
+    → after_key_written borrowed_texts.attributes borrowed_texts.public_key t k
+    ≡ after_key_written (λ content. content) bits_content (option_map attributes_bytes_ref t) (option_map plain_bits_ref k)
 same_tail None None = refl
 same_tail None (Some k) = refl
 same_tail (Some t) None = refl
@@ -44,6 +46,9 @@ private_key_seen v =
     let key : List ℕ = encode 4 v.private_key.bytes.now in
     let tail : List ℕ = after_key_written borrowed_texts.attributes borrowed_texts.public_key v.attributes v.public_key in
     let version = same_version v.public_key in
-    ap (λ n. encode 48 (encode 2 (version_byte n ∷ []) ++ algorithm_encoding (λ (a : AnyRef). encode a.tag.byte a.value.now) v.algorithm ++ key ++ tail)) version
-    ∙ ap (λ (x : List ℕ). encode 48 (encode 2 (version_byte (version_of (option_map plain_bits_ref v.public_key)) ∷ []) ++ x ++ key ++ tail)) (algorithm_seen v.algorithm)
-    ∙ ap (λ (x : List ℕ). encode 48 (encode 2 (version_byte (version_of (option_map plain_bits_ref v.public_key)) ∷ []) ++ algorithm_der (plain_private_key_ref v).algorithm ++ key ++ x)) (same_tail v.attributes v.public_key)
+    ap (λ n. encode 48 (encode 2 (version_byte n ∷ []) ++ algorithm_encoding (λ (a : AnyRef). encode a.tag.byte a.value.now) v.algorithm ++ key ++ tail))
+    version
+    ∙ ap (λ (x : List ℕ). encode 48 (encode 2 (version_byte (version_of (option_map plain_bits_ref v.public_key)) ∷ []) ++ x ++ key ++ tail))
+    (algorithm_seen v.algorithm)
+    ∙ ap (λ (x : List ℕ). encode 48 (encode 2 (version_byte (version_of (option_map plain_bits_ref v.public_key)) ∷ [])
+    ++ algorithm_der (plain_private_key_ref v).algorithm ++ key ++ x)) (same_tail v.attributes v.public_key)

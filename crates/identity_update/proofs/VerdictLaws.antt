@@ -1,5 +1,6 @@
 -- What holds of an update that breaks no rule.
-use Rattle.std.proofs.Common.{◌≡◌, ℕ, ◌+◌, ◌≤◌, true, List, [], ◌∷◌, ◌++◌, length, map, Option, Some, None, IfSome, Result, Ok, refl, sym, ap, subst, length-append, arith}
+use Rattle.std.proofs.Common.{◌≡◌, ℕ, ◌+◌, ◌≤◌, true, List, [], ◌∷◌, ◌++◌, length, map, Option, Some, None, IfSome, Result, Ok, refl, sym, ap, subst}
+use Rattle.std.proofs.Common.{length-append, arith}
 use Rattle.std.specs.Prelude.{IsOk}
 use Rattle.std.specs.List.{AllByRecursion, flat_map}
 use Rattle.der_core.specs.Der.{encode}
@@ -18,7 +19,8 @@ use Rattle.update_document.proofs.FitsLaws.{encode_le}
 use Rattle.identity_update.specs.Canonical.{canonical, canonical_bundle, canonical_entry, update_der}
 use Rattle.identity_update.specs.Lawful.{HasCanonicalDomain, HasCanonicalId, HasOneKey, HasOnePurpose, IsLawful}
 use Rattle.identity_update.specs.Parts.{Bundle, Entry, UpdateParts}
-use Rattle.identity_update.specs.Verdict.{bundle_check, bundles_check, entries_check, entry_check, entry_of, has_bundle, holds_no_other, keys_check, map_refusal, members_check, purpose_check, verdict}
+use Rattle.identity_update.specs.Verdict.{bundle_check, bundles_check, entries_check, entry_check, entry_of, has_bundle, holds_no_other, keys_check}
+use Rattle.identity_update.specs.Verdict.{map_refusal, members_check, purpose_check, verdict}
 use Rattle.identity_update.specs.declared.error.UpdateError.{UpdateError}
 use Rattle.identity_update.specs.declared.error.UpdateError.TheVariants.{AlgorithmMismatch, Authorities, Domain, MissingBundle, PublicKeyMismatch, Subject}
 use Rattle.identity_update.proofs.Inverses.{if_inverse, map_inverse, refusal_inverse, then_inverse}
@@ -38,7 +40,8 @@ unfolding verdict
 rules_hold w u e =
     let made : List Entry → List Bundle → UpdateParts = λ es bs. record { entries = es; bundles = bs; reason = w.reason } in
     let judged : List Entry → List Bundle → Result UpdateParts UpdateError = λ es bs. map_ok (λ _. made es bs) (members_check 0 bs es) in
-    let purpose = then_inverse (purpose_check w.entries w.reason) (λ _. then_ok (entries_check 0 w.entries) (λ es. then_ok (bundles_check 0 w.bundles) (judged es))) u e in
+    let purpose = then_inverse (purpose_check w.entries w.reason)
+    (λ _. then_ok (entries_check 0 w.entries) (λ es. then_ok (bundles_check 0 w.bundles) (judged es))) u e in
     let entries = then_inverse (entries_check 0 w.entries) (λ es. then_ok (bundles_check 0 w.bundles) (judged es)) u purpose.gives in
     let bundles = then_inverse (bundles_check 0 w.bundles) (judged entries.value) u entries.gives in
     let members = map_inverse (members_check 0 bundles.value entries.value) (λ _. made entries.value bundles.value) u bundles.gives in
@@ -56,7 +59,13 @@ entry_holds : (n : ℕ) (e : WrittenEntry) (v : Entry) → entry_check n e ≡ O
 entry_holds n e v is =
     let id = then_inverse (map_refusal (Subject n) (id_of e.text)) (λ id. map_ok (λ _. entry_of e id) (keys_check n e.private_key e.public_key)) v is in
     let keys = map_inverse (keys_check n e.private_key e.public_key) (λ _. entry_of e id.value) v id.gives in
-    subst (EntryHolds e) keys.same (record { id = refusal_inverse (Subject n) (id_of e.text) id.value id.is; private_key = refl; public_key = refl; n = n; keys = keys.is })
+    subst (EntryHolds e) keys.same (record {
+      id = refusal_inverse (Subject n) (id_of e.text) id.value id.is;
+      private_key = refl;
+      public_key = refl;
+      n = n;
+      keys = keys.is;
+    })
 
 pub record BundleHolds (b : WrittenBundle) (v : Bundle) : Type 0 where
   domain : trust_domain_of b.text ≡ Ok v.trust_domain
@@ -68,7 +77,8 @@ read_is_ok bytes keys e = rw e refl
 
 bundle_holds : (n : ℕ) (b : WrittenBundle) (v : Bundle) → bundle_check n b ≡ Ok v → BundleHolds b v
 bundle_holds n b v is =
-    let domain = then_inverse (map_refusal (Domain n) (trust_domain_of b.text)) (λ domain. map_ok (λ _. record { trust_domain = domain; jwks = b.jwks }) (map_refusal (Authorities n) (key_set_of b.jwks))) v is in
+    let domain = then_inverse (map_refusal (Domain n) (trust_domain_of b.text))
+    (λ domain. map_ok (λ _. record { trust_domain = domain; jwks = b.jwks }) (map_refusal (Authorities n) (key_set_of b.jwks))) v is in
     let keys = map_inverse (map_refusal (Authorities n) (key_set_of b.jwks)) (λ _. record { trust_domain = domain.value; jwks = b.jwks }) v domain.gives in
     subst (BundleHolds b) keys.same (record {
       domain = refusal_inverse (Domain n) (trust_domain_of b.text) domain.value domain.is;
@@ -86,7 +96,8 @@ entries_hold n [] vs is = let none : [] ≡ vs = cc in subst (EntriesHold []) no
 entries_hold n (e ∷ es) vs is =
     let first = then_inverse (entry_check n e) (λ first. map_ok (λ more. first ∷ more) (entries_check (n + 1) es)) vs is in
     let more = map_inverse (entries_check (n + 1) es) (λ more. first.value ∷ more) vs first.gives in
-    subst (EntriesHold (e ∷ es)) more.same (an_entry e es first.value more.value (entry_holds n e first.value first.is) (entries_hold (n + 1) es more.value more.is))
+    subst (EntriesHold (e ∷ es)) more.same (an_entry e es first.value more.value (entry_holds n e first.value first.is)
+    (entries_hold (n + 1) es more.value more.is))
 
 pub data BundlesHold : List WrittenBundle → List Bundle → Type 0 where
   no_bundles : BundlesHold [] []
@@ -97,7 +108,8 @@ bundles_hold n [] vs is = let none : [] ≡ vs = cc in subst (BundlesHold []) no
 bundles_hold n (b ∷ bs) vs is =
     let first = then_inverse (bundle_check n b) (λ first. map_ok (λ more. first ∷ more) (bundles_check (n + 1) bs)) vs is in
     let more = map_inverse (bundles_check (n + 1) bs) (λ more. first.value ∷ more) vs first.gives in
-    subst (BundlesHold (b ∷ bs)) more.same (a_bundle b bs first.value more.value (bundle_holds n b first.value first.is) (bundles_hold (n + 1) bs more.value more.is))
+    subst (BundlesHold (b ∷ bs)) more.same (a_bundle b bs first.value more.value (bundle_holds n b first.value first.is)
+    (bundles_hold (n + 1) bs more.value more.is))
 
 -- the canonical document is no longer than what was read
 entry_fits : (e : WrittenEntry) (v : Entry) → EntryHolds e v → length (entry_der (canonical_entry v)) ≤ length (entry_der e)
@@ -111,7 +123,8 @@ entry_fits e v h =
     let sum' = length-append (encode 12 e.text) (private_key_der e.private_key ++ public_key_der e.public_key) in
     encode_le 48 (entry_content (canonical_entry v)) (entry_content e) (omega arith)
 
-entries_fit : (es : List WrittenEntry) (vs : List Entry) → EntriesHold es vs → length (flat_map entry_der (map canonical_entry vs)) ≤ length (flat_map entry_der es)
+entries_fit : (es : List WrittenEntry) (vs : List Entry) → EntriesHold es vs
+    → length (flat_map entry_der (map canonical_entry vs)) ≤ length (flat_map entry_der es)
 entries_fit [] [] no_entries = omega arith
 entries_fit [] (v ∷ vs) h = elim h [ ]
 entries_fit (e ∷ es) [] h = elim h [ ]
@@ -133,7 +146,8 @@ bundle_fits b v h =
     let sum' = length-append (encode 12 b.text) (encode 4 b.jwks) in
     encode_le 48 (bundle_content (canonical_bundle v)) (bundle_content b) (omega arith)
 
-bundles_fit : (bs : List WrittenBundle) (vs : List Bundle) → BundlesHold bs vs → length (flat_map bundle_der (map canonical_bundle vs)) ≤ length (flat_map bundle_der bs)
+bundles_fit : (bs : List WrittenBundle) (vs : List Bundle) → BundlesHold bs vs
+    → length (flat_map bundle_der (map canonical_bundle vs)) ≤ length (flat_map bundle_der bs)
 bundles_fit [] [] no_bundles = omega arith
 bundles_fit [] (v ∷ vs) h = elim h [ ]
 bundles_fit (b ∷ bs) [] h = elim h [ ]
@@ -159,7 +173,8 @@ canonical_fits w u is =
     encode_le 48 (document_content (canonical u)) (document_content w) (omega arith)
 
 -- what the rules say of the update
-one_purpose : (es : List WrittenEntry) (vs : List Entry) (reason : Option (List ℕ)) → EntriesHold es vs → purpose_check es reason ≡ Ok tt → HasOnePurpose vs reason
+one_purpose : (es : List WrittenEntry) (vs : List Entry) (reason : Option (List ℕ)) → EntriesHold es vs → purpose_check es reason ≡ Ok tt
+    → HasOnePurpose vs reason
 one_purpose [] (v ∷ vs) reason h is = elim h [ ]
 one_purpose (e ∷ es) [] reason h is = elim h [ ]
 one_purpose [] [] None no_entries is = cc
@@ -207,7 +222,8 @@ are_canonical_domains [] (v ∷ vs) h = elim h [ ]
 are_canonical_domains (b ∷ bs) [] h = elim h [ ]
 are_canonical_domains (b ∷ bs) (v ∷ vs) (a_bundle _ _ _ _ h more) = (domain_again b.text v.trust_domain h.domain, are_canonical_domains bs vs more)
 
-pub are_members : (n : ℕ) (bundles : List Bundle) (es : List Entry) → members_check n bundles es ≡ Ok tt → AllByRecursion (λ e. has_bundle e.id.trust_domain bundles ≡ true) es
+pub are_members : (n : ℕ) (bundles : List Bundle) (es : List Entry) → members_check n bundles es ≡ Ok tt
+    → AllByRecursion (λ e. has_bundle e.id.trust_domain bundles ≡ true) es
 are_members n bundles [] is = tt
 are_members n bundles (e ∷ es) is =
     let first = if_inverse (has_bundle e.id.trust_domain bundles) (members_check (n + 1) bundles es) (MissingBundle n) tt is in

@@ -1,5 +1,6 @@
 -- The text of an update: how long it is, and that it writes the update.
-use Rattle.std.proofs.Common.{◌≡◌, ℕ, ◌+◌, ◌-◌, ◌*◌, ◌/◌, ◌<◌, ◌≤◌, ◌^◌, true, List, length, sym, ap, subst, ◌∙◌, arith, nat_lt, Bool, if◌then◌else◌, Result, Ok, Err, IfOk}
+use Rattle.std.proofs.Common.{◌≡◌, ℕ, ◌+◌, ◌-◌, ◌*◌, ◌/◌, ◌<◌, ◌≤◌, ◌^◌, true, List, length, sym, ap, subst, ◌∙◌, arith, nat_lt, Bool, if◌then◌else◌, Result}
+use Rattle.std.proofs.Common.{Ok, Err, IfOk}
 use Rattle.std.proofs.lemmas.Bool.Decides.{nat_tests}
 use Rattle.std.proofs.lemmas.List.{length-take-le}
 use Rattle.std.proofs.lemmas.Nat.{div-add-mod', le-div, mul-le}
@@ -63,7 +64,8 @@ wrapped_len_short w ending n low =
     omega (arith, endings)
 
 -- the text of the whole groups is no longer than the whole text
-pub groups_fit : (w : ℕ) (ending : LineEnding) (b : List ℕ) (n : ℕ) → 0 < w → n ≡ length (encoding_of High standard true b) → length (text_of w ending (whole_groups b)) ≤ wrapped_len w ending n
+pub groups_fit : (w : ℕ) (ending : LineEnding) (b : List ℕ) (n : ℕ) → 0 < w → n ≡ length (encoding_of High standard true b)
+    → length (text_of w ending (whole_groups b)) ≤ wrapped_len w ending n
 groups_fit w ending b n low is =
     let groups : List ℕ = whole_groups b in
     let len = length-wrapped w ending (encoding_of High standard true groups) low in
@@ -77,12 +79,14 @@ groups_fit w ending b n low is =
 pub encoding_short : (b : List ℕ) → length b < 2 ^ 32 → length (encoding_of High standard true b) < 2 ^ 33
 encoding_short b small = let all = length-encoding_of High standard b true in omega (arith, all, small)
 
-pub characters_are : (b : List ℕ) (n : ℕ) → length b < 2 ^ 32 → n ≡ (if nat_lt (4 * length b) (2 ^ 64) then length (encoding_of High standard true b) else 0) → n ≡ length (encoding_of High standard true b)
+pub characters_are : (b : List ℕ) (n : ℕ) → length b < 2 ^ 32
+    → n ≡ (if nat_lt (4 * length b) (2 ^ 64) then length (encoding_of High standard true b) else 0) → n ≡ length (encoding_of High standard true b)
 characters_are b n small is =
     let test : nat_lt (4 * length b) (2 ^ 64) ≡ true = grind (arith, nat_tests) in
     is ∙ ap (λ (t : Bool). if t then length (encoding_of High standard true b) else 0) test
 
-pub room_fits : (w : ℕ) (ending : LineEnding) (b : List ℕ) (n : ℕ) → 0 < w → length b < 2 ^ 32 → n ≡ length (encoding_of High standard true b) → wrapped_len w ending n < 2 ^ 64
+pub room_fits : (w : ℕ) (ending : LineEnding) (b : List ℕ) (n : ℕ) → 0 < w → length b < 2 ^ 32 → n ≡ length (encoding_of High standard true b)
+    → wrapped_len w ending n < 2 ^ 64
 room_fits w ending b n low small is =
     let short = wrapped_len_short w ending n low in
     let characters = encoding_short b small in
@@ -94,7 +98,8 @@ room_some w ending b n is some =
     let first : n ≤ wrapped_len w ending n = omega arith in
     omega (arith, characters, is, first)
 
-pub text_len : (w : ℕ) (ending : LineEnding) (b : List ℕ) → 0 < w → length (text_of w ending b) ≡ wrapped_len w ending (length (encoding_of High standard true b))
+pub text_len : (w : ℕ) (ending : LineEnding) (b : List ℕ) → 0 < w
+    → length (text_of w ending b) ≡ wrapped_len w ending (length (encoding_of High standard true b))
 text_len w ending b low = length-wrapped w ending (encoding_of High standard true b) low
 
 pub text_some : (w : ℕ) (ending : LineEnding) (b : List ℕ) → 0 < w → 0 < length b → 0 < length (text_of w ending b)
@@ -107,10 +112,12 @@ pub document_some : (u : UpdateParts) → 0 < length (update_der u)
 document_some u = let len = length_encode 48 (document_content (canonical u)) in omega arith
 
 abbrev pub ReadsBack : Type 0
-ReadsBack = (width : ℕ) (ending : LineEnding) (b : List ℕ) → 0 < width → 0 < length b → IsBytes b → IsWrappedText High standard true width (wrapped width ending (encoding_of High standard true b)) b
+ReadsBack = (width : ℕ) (ending : LineEnding) (b : List ℕ) → 0 < width → 0 < length b → IsBytes b
+    → IsWrappedText High standard true width (wrapped width ending (encoding_of High standard true b)) b
 
 -- the text of bytes writes these bytes
-pub text_writes : (width : ℕ) (ending : LineEnding) (bytes text : List ℕ) → ReadsBack → 4 ≤ width → 0 < length bytes → IsBytes bytes → text ≡ text_of width ending bytes → HasLength width text × WritesBytes width text bytes
+pub text_writes : (width : ℕ) (ending : LineEnding) (bytes text : List ℕ) → ReadsBack → 4 ≤ width → 0 < length bytes → IsBytes bytes
+    → text ≡ text_of width ending bytes → HasLength width text × WritesBytes width text bytes
 text_writes width ending bytes text back wide some are is =
     let low : 0 < width = omega arith in (
       (wide, subst (λ (t : List ℕ). 0 < length t) (sym is) (text_some width ending bytes low some)),
@@ -118,16 +125,21 @@ text_writes width ending bytes text back wide some are is =
     )
 
 -- the text of an update's document writes the update
-pub update_writes : (width : ℕ) (u : UpdateParts) (document : List ℕ) (result : Result (String Global) Error) → IfOk result (λ text. HasLength width (string_bytes text) × WritesBytes width (string_bytes text) document) → ReadsUpdate document (canonical u) → verdict (canonical u) ≡ Ok u → IfOk result (λ text. Writes width (string_bytes text) u)
-update_writes width u document (Ok text) h reads lawful = record { written = canonical u; document = record { has = h.0; bytes = document; are = h.1; document = reads }; lawful = lawful }
+pub update_writes : (width : ℕ) (u : UpdateParts) (document : List ℕ) (result : Result (String Global) Error)
+    → IfOk result (λ text. HasLength width (string_bytes text) × WritesBytes width (string_bytes text) document) → ReadsUpdate document (canonical u)
+    → verdict (canonical u) ≡ Ok u → IfOk result (λ text. Writes width (string_bytes text) u)
+update_writes width u document (Ok text) h reads lawful = record
+    { written = canonical u; document = record { has = h.0; bytes = document; are = h.1; document = reads }; lawful = lawful }
 update_writes width u document (Err e) h reads lawful = tt
 
 -- equal texts are those of one document
-pub same_documents : (width : ℕ) (ending : LineEnding) (a b : UpdateParts) (first second : List ℕ) → WritesOne → ReadsBack → 4 ≤ width → IsBytes first → IsBytes second → first ≡ update_der a → second ≡ update_der b → update_text width ending a ≡ update_text width ending b → update_der a ≡ update_der b
+pub same_documents : (width : ℕ) (ending : LineEnding) (a b : UpdateParts) (first second : List ℕ) → WritesOne → ReadsBack → 4 ≤ width → IsBytes first
+    → IsBytes second → first ≡ update_der a → second ≡ update_der b → update_text width ending a ≡ update_text width ending b → update_der a ≡ update_der b
 same_documents width ending a b first second one back wide x y is_a is_b same =
     let low : 0 < width = omega arith in
     let bytes_a : IsBytes (update_der a) = subst IsBytes is_a x in
     let bytes_b : IsBytes (update_der b) = subst IsBytes is_b y in
     let writes_a = back width ending (update_der a) low (document_some a) bytes_a in
     let writes_b = back width ending (update_der b) low (document_some b) bytes_b in
-    one width (update_text width ending b) (update_der a) (update_der b) low (subst (λ (t : List ℕ). IsWrappedText High standard true width t (update_der a)) same writes_a) writes_b
+    one width (update_text width ending b) (update_der a) (update_der b) low
+    (subst (λ (t : List ℕ). IsWrappedText High standard true width t (update_der a)) same writes_a) writes_b

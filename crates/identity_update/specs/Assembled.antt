@@ -17,4 +17,5 @@ assembled entries bundles reason = record { entries = map checked_entry entries;
 
 -- the document around entries that are written
 abbrev pub document_of : List ℕ → List BundleParts → Option Utf8Ref → List ℕ
-document_of written bundles reason = encode 48 (fields_written written (flat_map bundle_der (map canonical_bundle (map plain_bundle bundles))) (option_map text_ref reason))
+document_of written bundles reason = encode 48 (fields_written written (flat_map bundle_der (map canonical_bundle (map plain_bundle bundles)))
+    (option_map text_ref reason))

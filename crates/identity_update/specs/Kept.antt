@@ -65,7 +65,12 @@ pub record IsReason (document : List ℕ) (p : Place) : Type 0 where
 
 -- the update that is kept, whose entries stand at a place of the document
 abbrev pub kept_update : List ℕ → Place → List KeptEntry → List BundleParts → Option Place → UpdateParts
-kept_update document at es bs r = record { entries = map (kept_entry (part document at)) es; bundles = map plain_bundle bs; reason = option_map (part document) r }
+kept_update document at es bs r = record {
+  entries = map (kept_entry (part document at)) es;
+  bundles = map plain_bundle bs;
+  reason =
+      option_map (part document) r;
+}
 
 -- the document is the one of the kept update, which is lawful and not too long, and the set is that of its bundles
 pub record IsKeptUpdate (document : List ℕ) (at : Place) (es : List KeptEntry) (bs : List BundleParts) (set : Bundles) (r : Option Place) : Type 0 where

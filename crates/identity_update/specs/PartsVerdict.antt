@@ -1,4 +1,5 @@
--- The rules of an update that is made of parts, in their order: the answer is the update, or the first rule that the parts break. Ids and trust domains break none, since they were read. Numbers count from 0.
+-- The rules of an update that is made of parts, in their order: the answer is the update, or the first rule that the parts break. Ids and trust
+-- domains break none, since they were read. Numbers count from 0.
 use Rattle.std.specs.Prelude.{ℕ, ◌+◌, ◌^◌, nat_lt, List, [], ◌∷◌, length, Some, Result, Ok, Err, ◌&&◌, if◌then◌else◌}
 use Rattle.der_core.specs.declared.error.Error.TheVariants.{Malformed, Overlength}
 use Rattle.spiffe_bundle.specs.KeySet.{key_set_of}

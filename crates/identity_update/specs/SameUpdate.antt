@@ -63,6 +63,7 @@ same_test false false to from = refl
 pub updates_equiv : IsEquivalence same_update
 updates_equiv = record {
   refl = λ x. (updates_decide x x).1 refl;
-  symm = λ x y. same_test (same_update x y) (same_update y x) (λ e. (updates_decide y x).1 (sym ((updates_decide x y).0 e))) (λ e. (updates_decide x y).1 (sym ((updates_decide y x).0 e)));
+  symm = λ x y. same_test (same_update x y) (same_update y x) (λ e. (updates_decide y x).1 (sym ((updates_decide x y).0 e)))
+      (λ e. (updates_decide x y).1 (sym ((updates_decide y x).0 e)));
   congr = λ x y z e. ap (λ (w : UpdateParts). same_update w z) ((updates_decide x y).0 e);
 }

@@ -13,7 +13,8 @@ use Rattle.update_document.specs.Written.{WrittenEntry, WrittenBundle, WrittenUp
 use Rattle.identity_update.specs.Parts.{Entry, Bundle, UpdateParts}
 use Rattle.spki.specs.Same.{same_algorithm, same_bits}
 use Rattle.identity_update.specs.declared.error.UpdateError.{UpdateError}
-use Rattle.identity_update.specs.declared.error.UpdateError.TheVariants.{MissingRequiredField, WithdrawalWithEntries, Subject, AlgorithmMismatch, PublicKeyMismatch, Domain, Authorities, MissingBundle, OutOfMemory}
+use Rattle.identity_update.specs.declared.error.UpdateError.TheVariants.{MissingRequiredField, WithdrawalWithEntries, Subject, AlgorithmMismatch}
+use Rattle.identity_update.specs.declared.error.UpdateError.TheVariants.{PublicKeyMismatch, Domain, Authorities, MissingBundle, OutOfMemory}
 
 -- the same answer, with its refusal seen by `f`
 abbrev pub map_refusal : {A E F : Type 0} → (E → F) → Result A E → Result A F

@@ -14,7 +14,8 @@ ghost use Rattle.identity_update.specs.Checked.{checked_entry};
 ghost use Rattle.identity_update.specs.KeptEntries.{AreKeptEntries, entries_der, entries_of};
 ghost use Rattle.identity_update.specs.PartsVerdict.{pairs_check};
 ghost use Rattle.spki.specs.Same.{same_algorithm as same_algorithm_of, same_bits as same_bits_of};
-ghost use Rattle.identity_update.specs.Verdict.{IsRefusal, map_refusal, purpose_check, holds_no_other as holds_no_other_of, keys_check, entry_check, entries_check};
+ghost use Rattle.identity_update.specs.Verdict.{IsRefusal, map_refusal, purpose_check, holds_no_other as holds_no_other_of, keys_check, entry_check};
+ghost use Rattle.identity_update.specs.Verdict.{entries_check};
 ghost use Rattle.identity_update.specs.declared.error.UpdateError.TheVariants.{Subject};
 
 use crate::entry::CheckedEntry;
@@ -122,7 +123,8 @@ fn give_back(left: &mut Vec<EntryRef<'_>>)
     }
 }
 
-/// Tries the rules of each entry in turn, and writes it into a vector of so much room. The room of entries that were read is given back on the way: they are larger than what is kept of them.
+/// Tries the rules of each entry in turn, and writes it into a vector of so much room. The room of entries that were
+/// read is given back on the way: they are larger than what is kept of them.
 pub(crate) fn check_entries(
     alloc: Global,
     entries: Vec<EntryRef<'_>>,

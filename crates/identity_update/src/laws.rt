@@ -16,13 +16,16 @@ use base64ct::{Base64, text_has_one_value, wrapped_encoding_is_read_back};
 /// A text of a width has one reading, want of memory aside: at most one update, or at most one broken rule, and never both.
 pub fn text_has_one_reading()
     ensures update { (width : ℕ) (text : List ℕ) (u v : UpdateParts) → Writes width text u → Writes width text v → u ≡ v }
-    ensures refusal { (width : ℕ) (text : List ℕ) (e f : UpdateError) → Refuses width text e → Refuses width text f → e ≢ UpdateError.OutOfMemory → f ≢ UpdateError.OutOfMemory → e ≡ f }
-    ensures never_both { (width : ℕ) (text : List ℕ) (u : UpdateParts) (e : UpdateError) → Writes width text u → Refuses width text e → e ≡ UpdateError.OutOfMemory }
+    ensures refusal { (width : ℕ) (text : List ℕ) (e f : UpdateError) → Refuses width text e → Refuses width text f → e ≢ UpdateError.OutOfMemory
+        → f ≢ UpdateError.OutOfMemory → e ≡ f }
+    ensures never_both { (width : ℕ) (text : List ℕ) (u : UpdateParts) (e : UpdateError) → Writes width text u → Refuses width text e
+        → e ≡ UpdateError.OutOfMemory }
 {
     text_has_one_value::<Base64>();
 }
 
-/// An update that a text writes has entries and no reason, or a reason and no entries; each of its entries has one key pair and a bundle, and each of its key sets is one.
+/// An update that a text writes has entries and no reason, or a reason and no entries; each of its entries has one key
+/// pair and a bundle, and each of its key sets is one.
 pub fn written_updates_are_lawful()
     ensures { (width : ℕ) (text : List ℕ) (u : UpdateParts) → Writes width text u → IsLawful u }
 {}

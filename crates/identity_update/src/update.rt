@@ -50,7 +50,8 @@ impl Model for Update {
 }
 
 impl Update {
-    /// Reads an update from its text: the padded Base64 of its document in lines of `width` characters, the last one shorter or equal, with CR, LF or CRLF between two lines and none after the last.
+    /// Reads an update from its text: the padded Base64 of its document in lines of `width` characters, the last one
+    /// shorter or equal, with CR, LF or CRLF between two lines and none after the last.
     pub fn read(alloc: Global, text: &[u8], width: usize) -> Result<Update, UpdateError>
         ensures value { IfOk result (Writes width text.now) }
         ensures refusal { IfErr result (Refuses width text.now) }
@@ -87,7 +88,8 @@ impl Update {
         judge_parts(alloc, Vec::new(alloc), bundles, Some(reason))
     }
 
-    /// The update's one document in DER, which its text is the Base64 of: canonical ids and trust domains, private keys with attributes and without extensions, and every bundle, replaced ones too.
+    /// The update's one document in DER, which its text is the Base64 of: canonical ids and trust domains, private keys
+    /// with attributes and without extensions, and every bundle, replaced ones too.
     pub fn document(&self) -> &[u8]
         ensures value { result.now ≡ update_der self.now }
         ensures fits { length result.now < 2 ^ 32 }
@@ -97,7 +99,8 @@ impl Update {
         &self.document
     }
 
-    /// The update's text: the padded Base64 of its document in lines of `width` characters, the last one shorter or equal, with the ending between two lines and none after the last. Lines have at least 4 characters.
+    /// The update's text: the padded Base64 of its document in lines of `width` characters, the last one shorter or
+    /// equal, with the ending between two lines and none after the last. Lines have at least 4 characters.
     pub fn to_text(
         &self,
         alloc: Global,

@@ -1,5 +1,6 @@
 -- The rules of an authority's JSON (RFC 7517, section 4), for a token of an algorithm.
-use Rattle.std.specs.Prelude.{ℕ, nat_eq, nat_lt, ◌+◌, ◌-◌, ◌*◌, ◌==◌, ◌||◌, ◌&&◌, not, List, [], ◌∷◌, length, Bool, true, false, Result, Ok, Err, Option, Some, None, is_some, option_and_then, codes, if◌then◌else◌}
+use Rattle.std.specs.Prelude.{ℕ, nat_eq, nat_lt, ◌+◌, ◌-◌, ◌*◌, ◌==◌, ◌||◌, ◌&&◌, not, List, [], ◌∷◌, length, Bool, true, false, Result, Ok, Err, Option, Some}
+use Rattle.std.specs.Prelude.{None, is_some, option_and_then, codes, if◌then◌else◌}
 use Rattle.std.specs.Option.{ok_or}
 use Rattle.std.specs.List.{list_any}
 use Rattle.std.specs.Int.{leading_zeros, w8}
@@ -14,7 +15,10 @@ use Rattle.spiffe_token.specs.JwtAlg.{alg_or, alg_eq}
 use Rattle.identity_verify.specs.declared.error.Field.{Field}
 use Rattle.identity_verify.specs.declared.error.Field.TheVariants.{Alg, Use, KeyOps, Kty, Crv, X, Y, N, E as Exponent}
 use Rattle.identity_verify.specs.declared.error.VerifyError.{VerifyError}
-use Rattle.identity_verify.specs.declared.error.VerifyError.TheVariants.{BackendUnsupportedAlgorithm, InvalidAuthorityMetadata, AuthorityAlgorithmMismatch, UnsupportedAuthorityPurpose, AuthorityVerificationNotPermitted, AuthorityCurveMismatch, InvalidAuthorityKeyComponent, NonCanonicalRsaComponent, WeakRsaAuthority}
+use Rattle.identity_verify.specs.declared.error.VerifyError.TheVariants.{BackendUnsupportedAlgorithm, InvalidAuthorityMetadata, AuthorityAlgorithmMismatch}
+use Rattle.identity_verify.specs.declared.error.VerifyError.TheVariants.{UnsupportedAuthorityPurpose, AuthorityVerificationNotPermitted}
+use Rattle.identity_verify.specs.declared.error.VerifyError.TheVariants.{AuthorityCurveMismatch, InvalidAuthorityKeyComponent, NonCanonicalRsaComponent}
+use Rattle.identity_verify.specs.declared.error.VerifyError.TheVariants.{WeakRsaAuthority}
 
 abbrev pub is_text : List ℕ → List ℕ → Bool
 is_text = pointwise nat_eq
@@ -29,7 +33,8 @@ supported_rule alg = if alg_eq alg ES512 then Err (BackendUnsupportedAlgorithm E
 -- the algorithm of that name, but for ES512
 unfoldable pub authority_alg : List ℕ → Option JwtAlg
 authority_alg name =
-    alg_or RS256 (alg_or RS384 (alg_or RS512 (alg_or ES256 (alg_or ES384 (alg_or PS256 (alg_or PS384 (alg_or PS512 None name) name) name) name) name) name) name) name
+    alg_or RS256 (alg_or RS384 (alg_or RS512 (alg_or ES256 (alg_or ES384 (alg_or PS256 (alg_or PS384 (alg_or PS512 None name) name) name) name) name) name)
+    name) name
 
 abbrev pub same_alg : {E : Type 0} → JwtAlg → Option JwtAlg → Rule E
 same_alg token None = Err (InvalidAuthorityMetadata Alg)

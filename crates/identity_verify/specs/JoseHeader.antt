@@ -1,5 +1,6 @@
 -- A token's header (RFC 7515, section 4) in which nothing stands but what a JWT-SVID may have (JWT-SVID, section 2).
-use Rattle.std.specs.Prelude.{ℕ, nat_eq, ◌&&◌, ◌||◌, List, Bool, true, false, Result, Ok, Err, Option, Some, None, is_some, codes, option_and_then, if◌then◌else◌}
+use Rattle.std.specs.Prelude.{ℕ, nat_eq, ◌&&◌, ◌||◌, List, Bool, true, false, Result, Ok, Err, Option, Some, None, is_some, codes, option_and_then}
+use Rattle.std.specs.Prelude.{if◌then◌else◌}
 use Rattle.std.specs.List.{list_all}
 use Rattle.std.specs.Cmp.Lexicographic.{pointwise}
 use Rattle.serde_json.specs.Data.{Data}

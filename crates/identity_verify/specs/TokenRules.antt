@@ -1,5 +1,6 @@
 -- The rules of a token's text, in their order.
-use Rattle.std.specs.Prelude.{ℕ, ◌-◌, ◌&&◌, ℤ, pos, int_le, List, length, take, Bool, true, false, Result, Ok, Err, Option, Some, None, is_some, option_map, option_and_then, if◌then◌else◌}
+use Rattle.std.specs.Prelude.{ℕ, ◌-◌, ◌&&◌, ℤ, pos, int_le, List, length, take, Bool, true, false, Result, Ok, Err, Option, Some, None, is_some, option_map}
+use Rattle.std.specs.Prelude.{option_and_then, if◌then◌else◌}
 use Rattle.std.specs.Option.{ok_or}
 use Rattle.spiffe_id.specs.Rules.{map_ok, then_ok}
 use Rattle.spiffe_json.specs.Json.{json_of}

@@ -104,14 +104,18 @@ signed_rules decode judge a alg message signature =
 -- the authority that a token names
 unfoldable pub authority_for : {E : Type 0} → (List ℕ → Result (Option Bundle) E) → Svid → Result Authority (Refusal E)
 authority_for source svid =
-    then_ok (by_rule (supported_rule svid.alg)) (λ _. then_ok (by_rule (bundle_rule svid.spiffe_id.trust_domain (source svid.spiffe_id.trust_domain))) (key_id_rule svid.key_id))
+    then_ok (by_rule (supported_rule svid.alg)) (λ _. then_ok (by_rule (bundle_rule svid.spiffe_id.trust_domain (source svid.spiffe_id.trust_domain)))
+    (key_id_rule svid.key_id))
 
-unfoldable pub parts_verdict : {E : Type 0} → (List ℕ → Option (List ℕ)) → (List ℕ → Result (Option Bundle) E) → Judge → List ℕ → List (List ℕ) → ℤ → Parts → Result Svid (Refusal E)
+unfoldable pub parts_verdict : {E : Type 0} → (List ℕ → Option (List ℕ)) → (List ℕ → Result (Option Bundle) E) → Judge → List ℕ → List (List ℕ) → ℤ → Parts
+    → Result Svid (Refusal E)
 parts_verdict decode source judge token expected now parts =
     then_ok (by_rule (parts_rules decode token parts)) (λ p. then_ok (authority_for source p.0)
-    (λ a. then_ok (by_rule (signed_rules decode judge a p.0.alg (message_of token parts) parts.signature)) (λ _. map_ok (λ _. p.0) (by_rule (claims_rules expected now p.0 p.1)))))
+    (λ a. then_ok (by_rule (signed_rules decode judge a p.0.alg (message_of token parts) parts.signature))
+    (λ _. map_ok (λ _. p.0) (by_rule (claims_rules expected now p.0 p.1)))))
 
 -- the verdict on a token by the bundles of a source and the answers of a backend
-unfoldable pub verdict : {E : Type 0} → (List ℕ → Option (List ℕ)) → (List ℕ → Result (Option Bundle) E) → Judge → List ℕ → List (List ℕ) → ℤ → Result Svid (Refusal E)
+unfoldable pub verdict : {E : Type 0} → (List ℕ → Option (List ℕ)) → (List ℕ → Result (Option Bundle) E) → Judge → List ℕ → List (List ℕ) → ℤ
+    → Result Svid (Refusal E)
 verdict decode source judge token expected now =
     then_ok (by_rule (time_rule now)) (λ _. then_ok (by_rule (text_rule token)) (parts_verdict decode source judge token expected now))

@@ -48,9 +48,11 @@ pub fn verify_current<'r, K: Backend>(
 ) -> Result<Verified<'r>, Rejected<'r>>
     ensures read { (n : PlainReader) × Renewed reader.old n × EndsWith n.list (state_of result) }
     ensures ok { (decode : List ℕ → Option (List ℕ)) → IsDecoding decode
-        → IfOk result (λ v. verdict decode (state_answer v.state.now) (K.answer backend.now) token.now (map string_bytes expected_audience.now) now ≡ Ok v.svid) }
+        → IfOk result (λ v. verdict decode (state_answer v.state.now) (K.answer backend.now) token.now (map string_bytes expected_audience.now) now
+        ≡ Ok v.svid) }
     ensures err { (decode : List ℕ → Option (List ℕ)) → IsDecoding decode
-        → IfErr result (λ r. IsVerifyRefusal (verdict decode (state_answer r.state.now) (K.answer backend.now) token.now (map string_bytes expected_audience.now) now) r.cause) }
+        → IfErr result (λ r. IsVerifyRefusal (verdict decode (state_answer r.state.now) (K.answer backend.now) token.now
+        (map string_bytes expected_audience.now) now) r.cause) }
 {
     let state = reader.current();
     match parse_and_validate(alloc, token, state, expected_audience, now, backend) {

@@ -7,7 +7,8 @@ ghost use Rattle.spiffe_json.specs.Json.{whole_json};
 ghost use Rattle.spiffe_token.specs.Header.{optional_text};
 ghost use Rattle.spiffe_token.specs.Members.{member_of, members_of};
 ghost use Rattle.identity_verify.specs.VerifyError.{IsRefusal};
-ghost use Rattle.identity_verify.specs.JoseHeader.{is_header_name, has_few_members, is_absent_or_text, has_header_values, header_json, header_shape, header_rule};
+ghost use Rattle.identity_verify.specs.JoseHeader.{is_header_name, has_few_members, is_absent_or_text, has_header_values, header_json, header_shape};
+ghost use Rattle.identity_verify.specs.JoseHeader.{header_rule};
 
 use crate::error::VerifyError;
 use serde_json::Value;

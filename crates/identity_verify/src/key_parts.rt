@@ -5,7 +5,9 @@ ghost use Rattle.serde_json.specs.View.{view};
 ghost use Rattle.spiffe_id.specs.Rules.{map_ok};
 ghost use Rattle.identity_verify.specs.VerifyError.{IsRefusal};
 ghost use Rattle.identity_verify.specs.Decoding.{IsDecoding};
-ghost use Rattle.identity_verify.specs.Authority.{text_rule, component, key_type_rule, is_curve, curve_of, size_of, curve_rule, coordinate_rule, curve_key_rules, rsa_octets, rsa_component, bits_of, strength_rule, rsa_key_rules, key_rules, authority_rules};
+ghost use Rattle.identity_verify.specs.Authority.{text_rule, component, key_type_rule, is_curve, curve_of, size_of, curve_rule, coordinate_rule};
+ghost use Rattle.identity_verify.specs.Authority.{curve_key_rules, rsa_octets, rsa_component, bits_of, strength_rule, rsa_key_rules, key_rules};
+ghost use Rattle.identity_verify.specs.Authority.{authority_rules};
 
 use crate::decoding::decode;
 use crate::error::{Field, VerifyError};

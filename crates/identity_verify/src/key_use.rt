@@ -5,7 +5,8 @@ ghost use Rattle.serde_json.specs.Find.{get, as_str, as_array};
 ghost use Rattle.serde_json.specs.View.{view, items_view};
 ghost use Rattle.spiffe_token.specs.Claims.{texts_of};
 ghost use Rattle.identity_verify.specs.VerifyError.{IsRefusal};
-ghost use Rattle.identity_verify.specs.Authority.{supported_rule, authority_alg, alg_rule, use_rule, stands_in, has_repeats, is_of_encryption, operations_rule, key_ops_rule, use_rules};
+ghost use Rattle.identity_verify.specs.Authority.{supported_rule, authority_alg, alg_rule, use_rule, stands_in, has_repeats, is_of_encryption};
+ghost use Rattle.identity_verify.specs.Authority.{operations_rule, key_ops_rule, use_rules};
 
 use crate::error::{Field, VerifyError};
 use serde_json::Value;

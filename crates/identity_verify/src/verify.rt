@@ -3,7 +3,8 @@ ghost use Rattle.std.specs.Prelude.{◌≡◌, ℕ, List, Option, Ok, Err, nat_e
 ghost use Rattle.std.specs.Arc.{arc_value};
 ghost use Rattle.identity_verify.specs.VerifyError.{IsRefusal};
 ghost use Rattle.identity_verify.specs.Decoding.{IsDecoding};
-ghost use Rattle.identity_verify.specs.Verdict.{IsVerifyRefusal, bundle_rule, key_id_rule, jwk_rules, judged, signature_rule, is_expected, has_audience, audience_rule, begin_rule, window_rule, claims_rules, signed_rules, authority_for, parts_verdict, verdict};
+ghost use Rattle.identity_verify.specs.Verdict.{IsVerifyRefusal, bundle_rule, key_id_rule, jwk_rules, judged, signature_rule, is_expected, has_audience};
+ghost use Rattle.identity_verify.specs.Verdict.{audience_rule, begin_rule, window_rule, claims_rules, signed_rules, authority_for, parts_verdict, verdict};
 ghost use Rattle.spiffe_token.specs.Parts.{parts_value};
 
 use crate::backend::{Backend, Signature};
@@ -217,7 +218,8 @@ fn verify_parts<B: BundleSource<Item = JwtBundle>, K: Backend>(
 where
     B::Error: Drop,
     ensures ok { (decode : List ℕ → Option (List ℕ)) → IsDecoding decode
-        → IfOk result (λ s. parts_verdict decode (B.answer bundles.now) (K.answer backend.now) token.now (map string_bytes expected_audience.now) now (parts_value parts.now) ≡ Ok s) }
+        → IfOk result (λ s. parts_verdict decode (B.answer bundles.now) (K.answer backend.now) token.now (map string_bytes expected_audience.now) now
+        (parts_value parts.now) ≡ Ok s) }
     ensures err { (decode : List ℕ → Option (List ℕ)) → IsDecoding decode
         → IfErr result (λ e. IsVerifyRefusal
         (parts_verdict decode (B.answer bundles.now) (K.answer backend.now) token.now (map string_bytes expected_audience.now) now (parts_value parts.now)) e) }
@@ -254,7 +256,8 @@ where
     ensures ok { (decode : List ℕ → Option (List ℕ)) → IsDecoding decode
         → IfOk result (λ s. verdict decode (B.answer bundles.now) (K.answer backend.now) token.now (map string_bytes expected_audience.now) now ≡ Ok s) }
     ensures err { (decode : List ℕ → Option (List ℕ)) → IsDecoding decode
-        → IfErr result (λ e. IsVerifyRefusal (verdict decode (B.answer bundles.now) (K.answer backend.now) token.now (map string_bytes expected_audience.now) now) e) }
+        → IfErr result (λ e. IsVerifyRefusal (verdict decode (B.answer bundles.now) (K.answer backend.now) token.now
+        (map string_bytes expected_audience.now) now) e) }
 {
     check_time(now)?;
     let Some(parts) = split_parts(token) else {

@@ -4,7 +4,8 @@ ghost use Rattle.serde_json.specs.Find.{get};
 ghost use Rattle.serde_json.specs.View.{items_view, view};
 ghost use Rattle.spiffe_token.specs.Members.{member_of, members_of};
 ghost use Rattle.pack_manifest.specs.Manifest.{IsRefusal, array_at, are_both, bundle_in, bundles_in, entries_in, entry_in, entry_members};
-ghost use Rattle.pack_manifest.specs.Manifest.{has_both, has_members, json_check, manifest_error, manifest_in, manifest_value, optional_text, shape_check, text_at};
+ghost use Rattle.pack_manifest.specs.Manifest.{has_both, has_members, json_check, manifest_error, manifest_in, manifest_value, optional_text, shape_check};
+ghost use Rattle.pack_manifest.specs.Manifest.{text_at};
 ghost use Rattle.pack_manifest.specs.Views.{manifest_named, named_bundle, named_entry};
 
 use crate::error::{ManifestError, ReadError};

@@ -11,4 +11,5 @@ pub one_order : WordsAreOneOrder
 one_order words a b p q =
     let of_manifest : List ℕ → Order = λ m. record { manifest = m; width = a.width } in
     let of_width : ℕ → Order = λ w. record { manifest = b.manifest; width = w } in
-    ap of_manifest (sym (at 1 words _ p.0) ∙ at 1 words _ q.0) ∙ ap of_width (decimal_injective a.width b.width p.1 q.1 (sym (at 2 words _ p.0) ∙ at 2 words _ q.0))
+    ap of_manifest (sym (at 1 words _ p.0) ∙ at 1 words _ q.0)
+    ∙ ap of_width (decimal_injective a.width b.width p.1 q.1 (sym (at 2 words _ p.0) ∙ at 2 words _ q.0))

@@ -44,7 +44,8 @@ module _ (order : Order) (before now : Devices) where
   stopped BadScript stops = absurd stops
 
   -- the answer was written
-  pub answered : (printed : List ℕ) (status : Status) → Prints before.files order printed status → Appends before.written now.written printed → Runs order before now status
+  pub answered : (printed : List ℕ) (status : Status) → Prints before.files order printed status → Appends before.written now.written printed
+      → Runs order before now status
   answered printed Done prints wrote = (printed, prints, wrote)
   answered printed Refused prints wrote = (printed, prints, wrote)
   answered printed Usage prints wrote = absurd prints
@@ -55,5 +56,6 @@ module _ (order : Order) (before now : Devices) where
   answered printed BadScript prints wrote = absurd prints
 
   -- a first part of the answer was written
-  pub partly : (printed : List ℕ) (status : Status) → Prints before.files order printed status → AppendsPrefix before.written now.written printed → PartlyPrinted order before now
+  pub partly : (printed : List ℕ) (status : Status) → Prints before.files order printed status → AppendsPrefix before.written now.written printed
+      → PartlyPrinted order before now
   partly printed status prints wrote = (printed, one_of_both before.files order printed status prints, wrote)

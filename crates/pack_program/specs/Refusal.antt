@@ -4,7 +4,8 @@ use Rattle.refusal_lines.specs.Refusal.{refusal_line}
 use Rattle.pack_manifest.specs.ManifestError.{manifest_rule}
 use Rattle.pack_update.specs.FileError.{file_rule}
 use Rattle.pack_update.specs.declared.error.PackError.{PackError}
-use Rattle.pack_update.specs.declared.error.PackError.TheVariants.{Width, Manifest, Subject, KeyFile, PublicFile, NoPublicKey, Domain, JwksFile, Update, Fault, OutOfMemory}
+use Rattle.pack_update.specs.declared.error.PackError.TheVariants.{Width, Manifest, Subject, KeyFile, PublicFile, NoPublicKey, Domain, JwksFile, Update, Fault}
+use Rattle.pack_update.specs.declared.error.PackError.TheVariants.{OutOfMemory}
 use Rattle.identity_update.specs.declared.error.UpdateError.TheVariants as update
 
 -- a rule is broken: neither did the disk fail nor was memory wanted

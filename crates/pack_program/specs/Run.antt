@@ -24,8 +24,10 @@ pub record Devices : Type 0 where
 
 -- what is printed for an order: the text of the update that the manifest is packed to, or the line of the first broken rule
 abbrev pub Prints : Option Files → Order → List ℕ → Status → Type 0
-Prints files order printed Done = (u : UpdateParts) × IsTextOf order.width LF u printed × ForSome files (λ known. Packed known order.manifest order.width (Ok u))
-Prints files order printed Refused = (error : PackError) × IsRule error × (printed ≡ pack_line error) × ForSome files (λ known. Packed known order.manifest order.width (Err error))
+Prints files order printed Done = (u : UpdateParts) × IsTextOf order.width LF u printed
+    × ForSome files (λ known. Packed known order.manifest order.width (Ok u))
+Prints files order printed Refused = (error : PackError) × IsRule error × (printed ≡ pack_line error)
+    × ForSome files (λ known. Packed known order.manifest order.width (Err error))
 Prints files order printed _ = ⊥
 
 -- that was written and nothing else

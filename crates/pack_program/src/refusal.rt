@@ -2,8 +2,8 @@
 ghost use Rattle.std.specs.Prelude.{◌≡◌, IfOk, string_bytes};
 ghost use Rattle.pack_program.specs.Refusal.{IsRule, pack_line};
 
-use refusal_lines::{id_text, refusal_text};
 use pack_update::PackError;
+use refusal_lines::{id_text, refusal_text};
 use std::alloc::{AllocError, Global};
 
 /// The line of a broken rule. A fault of the disk and want of memory have none.

@@ -7,14 +7,16 @@ pub(crate) const MANIFEST: &str =
     r#"{"entries":[{"id":"spiffe://example.org/a","key":"k","public":"p"}],"bundles":[{"domain":"example.org","jwks":"b"}]}"#;
 
 pub(crate) const TEXT: &str =
-    "MIGWMHYwdAwWc3BpZmZlOi8vZXhhbXBsZS5vcmcvYTAuAgEAMAUGAytlcAQiBCAR\nERERERERERERERERERERERERERERERERERERERERETAqMAUGAytlcAMhAE0pFn8/\nGRKm9636KToFGhXAXsZ7jxcmexxVUNzoU70NMBwwGgwLZXhhbXBsZS5vcmcEC3si\na2V5cyI6W119";
+    "MIGWMHYwdAwWc3BpZmZlOi8vZXhhbXBsZS5vcmcvYTAuAgEAMAUGAytlcAQiBCAR\nERERERERERERERERERERERERERERERERERERERERETAqMAUGAytlcAMhAE0pFn8/\nGRK\
+         m9636KToFGhXAXsZ7jxcmexxVUNzoU70NMBwwGgwLZXhhbXBsZS5vcmcEC3si\na2V5cyI6W119";
 
 // The public key is in the document of the private key.
 pub(crate) const OWN: &str =
     r#"{"entries":[{"id":"spiffe://example.org/a","key":"w"}],"bundles":[{"domain":"example.org","jwks":"b"}]}"#;
 
 pub(crate) const OWN_TEXT: &str =
-    "MIG7MIGaMIGXDBZzcGlmZmU6Ly9leGFtcGxlLm9yZy9hMFECAQEwBQYDK2VwBCIE\nIBERERERERERERERERERERERERERERERERERERERERERgSEATSkWfz8ZEqb3rfop\nOgUaFcBexnuPFyZ7HFVQ3OhTvQ0wKjAFBgMrZXADIQBNKRZ/PxkSpvet+ik6BRoV\nwF7Ge48XJnscVVDc6FO9DTAcMBoMC2V4YW1wbGUub3JnBAt7ImtleXMiOltdfQ==";
+    "MIG7MIGaMIGXDBZzcGlmZmU6Ly9leGFtcGxlLm9yZy9hMFECAQEwBQYDK2VwBCIE\nIBERERERERERERERERERERERERERERERERERERERERERgSEATSkWfz8ZEqb3rfop\nOgU\
+         aFcBexnuPFyZ7HFVQ3OhTvQ0wKjAFBgMrZXADIQBNKRZ/PxkSpvet+ik6BRoV\nwF7Ge48XJnscVVDc6FO9DTAcMBoMC2V4YW1wbGUub3JnBAt7ImtleXMiOltdfQ==";
 
 // Two entries and three bundles in an order of their own; names inside are read with the last of equal ones, and a text with its escapes.
 const SEVERAL: &str =
@@ -22,7 +24,10 @@ const SEVERAL: &str =
     "\u0065ntries":[{"id":"spiffe://A.test/x","public":"\u0070","key":"k"},{"id":"no","key":"none","id":"spiffe://example.org/a","key":"w"}]} "#;
 
 const SEVERAL_TEXT: &str =
-    "MIIBXDCCAQswbwwRc3BpZmZlOi8vYS50ZXN0L3gwLgIBADAFBgMrZXAEIgQgEREREREREREREREREREREREREREREREREREREREREREwKjAFBgMrZXADIQBNKRZ/PxkSpvet+ik6BRoVwF7Ge48XJnscVVDc6FO9DTCBlwwWc3BpZmZlOi8vZXhhbXBsZS5vcmcvYTBRAgEBMAUGAytlcAQiBCAREREREREREREREREREREREREREREREREREREREREREYEhAE0pFn8/GRKm9636KToFGhXAXsZ7jxcmexxVUNzoU70NMCowBQYDK2VwAyEATSkWfz8ZEqb3rfopOgUaFcBexnuPFyZ7HFVQ3OhTvQ0wSzAaDAtleGFtcGxlLm9yZwQLeyJrZXlzIjpbXX0wFQwGYS50ZXN0BAt7ImtleXMiOltdfTAWDAZhLnRlc3QEDHsia2V5cyI6WyBdfQ==";
+    "MIIBXDCCAQswbwwRc3BpZmZlOi8vYS50ZXN0L3gwLgIBADAFBgMrZXAEIgQgEREREREREREREREREREREREREREREREREREREREREREwKjAFBgMrZXADIQBNKRZ/PxkSpvet+ik\
+         6BRoVwF7Ge48XJnscVVDc6FO9DTCBlwwWc3BpZmZlOi8vZXhhbXBsZS5vcmcvYTBRAgEBMAUGAytlcAQiBCAREREREREREREREREREREREREREREREREREREREREREYEhAE\
+         0pFn8/GRKm9636KToFGhXAXsZ7jxcmexxVUNzoU70NMCowBQYDK2VwAyEATSkWfz8ZEqb3rfopOgUaFcBexnuPFyZ7HFVQ3OhTvQ0wSzAaDAtleGFtcGxlLm9yZwQLeyJrZ\
+         XlzIjpbXX0wFQwGYS50ZXN0BAt7ImtleXMiOltdfTAWDAZhLnRlc3QEDHsia2V5cyI6WyBdfQ==";
 
 // No call of this number is made.
 pub(crate) const NEVER: u64 = 1000;

@@ -15,7 +15,8 @@ use Rattle.pack_update.proofs.OnePublicKey.{one_public_key}
 use Rattle.pack_update.proofs.OneRule.{OneBeside, is_one, one_each, one_is, one_mapped, one_or_fault, one_refused_as, one_then}
 use Rattle.pack_update.specs.KeyFiles.{ReadsPrivateKeyFile, ReadsPublicKeyFile, whole_file}
 use Rattle.pack_update.specs.OneAnswer.{PackedIsOneAnswer}
-use Rattle.pack_update.specs.Packed.{BundleRules, DomainRule, EntryRules, Files, JsonRule, KeyRules, KeySetRule, ManifestRule, PackedParts, PackedText, PrivateKeyRule, PublicKeyRule, ShapeRule, SubjectRule, UpdateRule, bundle_of, entry_of, own_public_key, width_check}
+use Rattle.pack_update.specs.Packed.{BundleRules, DomainRule, EntryRules, Files, JsonRule, KeyRules, KeySetRule, ManifestRule, PackedParts, PackedText}
+use Rattle.pack_update.specs.Packed.{PrivateKeyRule, PublicKeyRule, ShapeRule, SubjectRule, UpdateRule, bundle_of, entry_of, own_public_key, width_check}
 use Rattle.pack_update.specs.Rules.{Each, Is, Mapped, RefusedAs, Then}
 use Rattle.pack_update.specs.declared.error.FileError.TheVariants as file
 use Rattle.pack_manifest.specs.declared.error.ManifestError.TheVariants as manifest
@@ -43,7 +44,8 @@ one_entry files n named =
 
 one_key_set : (files : Files) (n : ℕ) (path : List ℕ) → OneBeside (KeySetRule files n path)
 one_key_set files n path =
-    let expected = whole_file (broken.JwksFile n file.Missing) (broken.JwksFile n file.TooLong) (file_at path files) in one_or_fault (Is expected) (is_one expected)
+    let expected = whole_file (broken.JwksFile n file.Missing) (broken.JwksFile n file.TooLong) (file_at path files) in
+    one_or_fault (Is expected) (is_one expected)
 
 one_bundle : (files : Files) (n : ℕ) (named : NamedBundle) → OneBeside (BundleRules files n named)
 one_bundle files n named =
@@ -58,7 +60,8 @@ one_parts : (files : Files) (m : Manifest) → OneBeside (PackedParts files m)
 one_parts files m =
     one_then (Each (EntryRules files) 0 m.entries) (λ entries. Then (Each (BundleRules files) 0 m.bundles) (UpdateRule entries))
     (one_each (EntryRules files) (one_entry files) 0 m.entries)
-    (λ entries. one_then (Each (BundleRules files) 0 m.bundles) (UpdateRule entries) (one_each (BundleRules files) (one_bundle files) 0 m.bundles) (one_update entries))
+    (λ entries. one_then (Each (BundleRules files) 0 m.bundles) (UpdateRule entries) (one_each (BundleRules files) (one_bundle files) 0 m.bundles)
+    (one_update entries))
 
 one_text : (files : Files) (text : List ℕ) → OneBeside (PackedText files text)
 one_text files text =
@@ -67,7 +70,8 @@ one_text files text =
 
 one_manifest : (files : Files) (path : List ℕ) → OneBeside (ManifestRule files path)
 one_manifest files path =
-    let expected = whole_file (broken.Manifest manifest.Missing) (broken.Manifest manifest.TooLong) (file_at path files) in one_or_fault (Is expected) (is_one expected)
+    let expected = whole_file (broken.Manifest manifest.Missing) (broken.Manifest manifest.TooLong) (file_at path files) in
+    one_or_fault (Is expected) (is_one expected)
 
 pub one_packed : PackedIsOneAnswer
 one_packed files path width =

@@ -51,7 +51,8 @@ same_answer bytes (Ok a) (Err e) h (inl k) = absurd (no_value bytes e k h.0)
 same_answer bytes (Ok a) (Err e) h (inr k) = private_key_one_answer bytes (Ok a) (Err e) h.1 k.1
 same_answer bytes (Err e) (Ok a) (inl h) k = absurd (no_value bytes e h k.0)
 same_answer bytes (Err e) (Ok a) (inr h) k = private_key_one_answer bytes (Err e) (Ok a) h.1 k.1
-same_answer bytes (Err e) (Err g) (inl h) (inl k) = ap Err (ap (error_or e) (same_document bytes (Err e) (Err g) (no_document bytes e h) (no_document bytes g k)))
+same_answer bytes (Err e) (Err g) (inl h) (inl k) = ap Err (ap (error_or e)
+    (same_document bytes (Err e) (Err g) (no_document bytes e h) (no_document bytes g k)))
 same_answer bytes (Err e) (Err g) (inl h) (inr k) = absurd (no_value bytes e h k.0)
 same_answer bytes (Err e) (Err g) (inr h) (inl k) = absurd (no_value bytes g k h.0)
 same_answer bytes (Err e) (Err g) (inr h) (inr k) = private_key_one_answer bytes (Err e) (Err g) h.1 k.1

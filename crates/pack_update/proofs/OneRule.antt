@@ -34,7 +34,8 @@ one_is expected r s h k p q = sym h ∙ k
 pub is_one : {A E : Type 0} (expected : Result A E) → One (Is expected)
 is_one expected r s h k = sym h ∙ k
 
-module _ {A B : Type 0} (First : Result A PackError → Type 0) (Next : A → Result B PackError → Type 0) (first : OneBeside First) (next : (a : A) → OneBeside (Next a)) where
+module _ {A B : Type 0} (First : Result A PackError → Type 0) (Next : A → Result B PackError → Type 0) (first : OneBeside First)
+    (next : (a : A) → OneBeside (Next a)) where
   moved : (a b : A) (r : Result B PackError) → First (Ok a) → First (Ok b) → Next b r → Next a r
   moved a b r h k there = subst (λ (x : A). Next x r) (ap (value_or a) (first (Ok b) (Ok a) k h tt tt)) there
 
@@ -61,7 +62,8 @@ one_mapped f Rule one (Err e) (Ok b) h k p q = absurd (apart (Ok k.0) (Err e) (o
 one_mapped f Rule one (Err e) (Err g) h k p q = ap Err (ap (error_or e) (one (Err e) (Err g) h k p q))
 
 -- the rule of each item
-pub one_each : {X A : Type 0} (Rule : ℕ → X → Result A PackError → Type 0) → ((n : ℕ) (x : X) → OneBeside (Rule n x)) → (n : ℕ) (xs : List X) → OneBeside (Each Rule n xs)
+pub one_each : {X A : Type 0} (Rule : ℕ → X → Result A PackError → Type 0) → ((n : ℕ) (x : X) → OneBeside (Rule n x)) → (n : ℕ) (xs : List X)
+    → OneBeside (Each Rule n xs)
 one_each Rule one n [] = one_is (Ok [])
 one_each Rule one n (x ∷ xs) =
     one_then (Rule n x) (λ a. Mapped (λ more. a ∷ more) (Each Rule (n + 1) xs)) (one n x)

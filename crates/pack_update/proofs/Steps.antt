@@ -26,7 +26,8 @@ pure p Rule told faults (Err e) gives none = record { told = λ files is. gives;
 
 module _ {A B V W : Type 0} (p : V → A) (q : W → B) (First : Files → Result A PackError → Type 0) (Next : Files → A → Result B PackError → Type 0) where
   -- the first rule refuses
-  pub refused : {old new : Option Files} {before now : ℕ} (e : PackError) → Tries p First old new before now (Err e) → Tries q (λ files. Then (First files) (Next files)) old new before now (Err e)
+  pub refused : {old new : Option Files} {before now : ℕ} (e : PackError) → Tries p First old new before now (Err e)
+      → Tries q (λ files. Then (First files) (Next files)) old new before now (Err e)
   refused e t = record { told = λ files is. stops p q (First files) (Next files) e (t.told files is); kept = t.kept; later = t.later; fault = t.fault }
 
   -- the first rule holds, and the next is tried with its value
@@ -47,10 +48,12 @@ module _ {A B V W : Type 0} (p : V → A) (q : W → B) (First : Files → Resul
 
 -- a rule whose value is seen by `f`
 module _ {A B V W : Type 0} (p : V → A) (q : W → B) (f : A → B) (Rules : Files → Result A PackError → Type 0) where
-  pub mapped_error : {old new : Option Files} {before now : ℕ} (e : PackError) → Tries p Rules old new before now (Err e) → Tries q (λ files. Mapped f (Rules files)) old new before now (Err e)
+  pub mapped_error : {old new : Option Files} {before now : ℕ} (e : PackError) → Tries p Rules old new before now (Err e)
+      → Tries q (λ files. Mapped f (Rules files)) old new before now (Err e)
   mapped_error e t = record { told = t.told; kept = t.kept; later = t.later; fault = t.fault }
 
-  pub mapped_value : {old new : Option Files} {before now : ℕ} (v : V) (w : W) → Tries p Rules old new before now (Ok v) → q w ≡ f (p v) → Tries q (λ files. Mapped f (Rules files)) old new before now (Ok w)
+  pub mapped_value : {old new : Option Files} {before now : ℕ} (v : V) (w : W) → Tries p Rules old new before now (Ok v) → q w ≡ f (p v)
+      → Tries q (λ files. Mapped f (Rules files)) old new before now (Ok w)
   mapped_value v w t is = record { told = λ files told. (p v, t.told files told, is); kept = t.kept; later = t.later; fault = tt }
 
 -- the answers to the rules of the items so far, before those that are left: what is answered to these is answered to all
@@ -62,13 +65,16 @@ module _ {X A : Type 0} (Rule : ℕ → X → Result A PackError → Type 0) (xs
   pub begun : Progress Rule xs [] 0 xs
   begun = record { done = λ more h. h; refused = λ e h. h }
 
-  pub one_done : (found : List A) (n : ℕ) (x : X) (rest : List X) (a : A) → Progress Rule xs found n (x ∷ rest) → Rule n x (Ok a) → Progress Rule xs (found ++ a ∷ []) (n + 1) rest
+  pub one_done : (found : List A) (n : ℕ) (x : X) (rest : List X) (a : A) → Progress Rule xs found n (x ∷ rest) → Rule n x (Ok a)
+      → Progress Rule xs (found ++ a ∷ []) (n + 1) rest
   one_done found n x rest a before h = record {
-    done = λ more others. subst (λ (l : List A). Each Rule 0 xs (Ok l)) (sym (append_assoc found (a ∷ []) more)) (before.done (a ∷ more) (a, h, (more, others, refl)));
+    done = λ more others. subst (λ (l : List A). Each Rule 0 xs (Ok l)) (sym (append_assoc found (a ∷ []) more))
+        (before.done (a ∷ more) (a, h, (more, others, refl)));
     refused = λ e others. before.refused e (inr (a, h, others));
   }
 
-  pub one_refused : (found : List A) (n : ℕ) (x : X) (rest : List X) (e : PackError) → Progress Rule xs found n (x ∷ rest) → Rule n x (Err e) → Each Rule 0 xs (Err e)
+  pub one_refused : (found : List A) (n : ℕ) (x : X) (rest : List X) (e : PackError) → Progress Rule xs found n (x ∷ rest) → Rule n x (Err e)
+      → Each Rule 0 xs (Err e)
   one_refused found n x rest e before h = before.refused e (inl h)
 
   pub all_done : (found : List A) (n : ℕ) → Progress Rule xs found n [] → Each Rule 0 xs (Ok found)

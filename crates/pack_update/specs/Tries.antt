@@ -8,7 +8,8 @@ use Rattle.pack_update.specs.declared.error.PackError.{PackError}
 use Rattle.pack_update.specs.declared.error.PackError.TheVariants.{Fault}
 
 -- what the rules may be answered where the files are told, with the files and the count of faults before and after
-pub record Tries {V A : Type 0} (plain : V → A) (Rules : Files → Result A PackError → Type 0) (old new : Option Files) (before now : ℕ) (result : Result V PackError) : Type 0 where
+pub record Tries {V A : Type 0} (plain : V → A) (Rules : Files → Result A PackError → Type 0) (old new : Option Files) (before now : ℕ)
+    (result : Result V PackError) : Type 0 where
   pub told : ForSome old (λ files. Gives plain (Rules files) result)
   pub kept : new ≡ old
   pub later : before ≤ now

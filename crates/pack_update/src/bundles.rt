@@ -11,8 +11,8 @@ ghost use Rattle.pack_manifest.specs.Views.{named_bundle};
 use crate::error::{FileError, PackError};
 use crate::files::read_whole;
 use identity_io::Disk;
-use pack_manifest::NamedBundle;
 use identity_update::BundleParts;
+use pack_manifest::NamedBundle;
 use spiffe_id::{SpiffeIdError, TrustDomain};
 use std::alloc::Global;
 
@@ -32,7 +32,8 @@ fn read_bundle<D: Disk>(
     bundle: usize,
     named: &NamedBundle<'_>,
 ) -> Result<BundleParts, PackError>
-    ensures { Tries plain_bundle (λ files. BundleRules files bundle (named_bundle named.now)) (D.files disk.old) (D.files disk.new) (D.faults disk.old) (D.faults disk.new) result }
+    ensures { Tries plain_bundle (λ files. BundleRules files bundle (named_bundle named.now)) (D.files disk.old) (D.files disk.new) (D.faults disk.old)
+        (D.faults disk.new) result }
 {
     let trust_domain = match domain(alloc, bundle, named.domain) {
         Ok(domain) => domain,
@@ -58,7 +59,8 @@ pub(crate) fn read_bundles<D: Disk>(
     disk: &mut D,
     named: &[NamedBundle<'_>],
 ) -> Result<Vec<BundleParts>, PackError>
-    ensures { Tries (λ v. map plain_bundle v.items) (λ files. Each (BundleRules files) 0 (map named_bundle named.now)) (D.files disk.old) (D.files disk.new) (D.faults disk.old) (D.faults disk.new) result }
+    ensures { Tries (λ v. map plain_bundle v.items) (λ files. Each (BundleRules files) 0 (map named_bundle named.now)) (D.files disk.old) (D.files disk.new)
+        (D.faults disk.old) (D.faults disk.new) result }
 {
     let mut bundles = Vec::new(alloc);
     for (number, one) in named.iter().enumerate() {

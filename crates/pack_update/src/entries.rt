@@ -14,8 +14,8 @@ ghost use Rattle.pack_manifest.specs.Views.{named_entry};
 use crate::error::PackError;
 use crate::files::{read_private_key, read_public_key};
 use identity_io::Disk;
-use pack_manifest::NamedEntry;
 use identity_update::EntryParts;
+use pack_manifest::NamedEntry;
 use pkcs8::PrivateKeyInfoOwned;
 use spiffe_id::{SpiffeId, SpiffeIdError};
 use spki::{SubjectPublicKeyInfoOwned, SubjectPublicKeyInfoRef};
@@ -76,7 +76,8 @@ fn with_keys<D: Disk>(
     named: &NamedEntry<'_>,
     id: SpiffeId,
 ) -> Result<EntryParts, PackError>
-    ensures { Tries plain_entry (λ files. KeyRules files entry (named_entry named.now) id) (D.files disk.old) (D.files disk.new) (D.faults disk.old) (D.faults disk.new) result }
+    ensures { Tries plain_entry (λ files. KeyRules files entry (named_entry named.now) id) (D.files disk.old) (D.files disk.new) (D.faults disk.old)
+        (D.faults disk.new) result }
 {
     let private_key = match read_private_key(alloc, disk, entry, named.key) {
         Ok(key) => key,
@@ -98,7 +99,8 @@ fn read_entry<D: Disk>(
     entry: usize,
     named: &NamedEntry<'_>,
 ) -> Result<EntryParts, PackError>
-    ensures { Tries plain_entry (λ files. EntryRules files entry (named_entry named.now)) (D.files disk.old) (D.files disk.new) (D.faults disk.old) (D.faults disk.new) result }
+    ensures { Tries plain_entry (λ files. EntryRules files entry (named_entry named.now)) (D.files disk.old) (D.files disk.new) (D.faults disk.old)
+        (D.faults disk.new) result }
 {
     match subject(alloc, entry, named.id) {
         Ok(id) => with_keys(alloc, disk, entry, named, id),
@@ -112,7 +114,8 @@ pub(crate) fn read_entries<D: Disk>(
     disk: &mut D,
     named: &[NamedEntry<'_>],
 ) -> Result<Vec<EntryParts>, PackError>
-    ensures { Tries (λ v. map plain_entry v.items) (λ files. Each (EntryRules files) 0 (map named_entry named.now)) (D.files disk.old) (D.files disk.new) (D.faults disk.old) (D.faults disk.new) result }
+    ensures { Tries (λ v. map plain_entry v.items) (λ files. Each (EntryRules files) 0 (map named_entry named.now)) (D.files disk.old) (D.files disk.new)
+        (D.faults disk.old) (D.faults disk.new) result }
 {
     let mut entries = Vec::new(alloc);
     for (number, one) in named.iter().enumerate() {

@@ -1,6 +1,6 @@
 //! Why nothing was packed.
-use pack_manifest::ManifestError;
 use identity_update::UpdateError;
+use pack_manifest::ManifestError;
 use spiffe_id::SpiffeIdError;
 use std::alloc::{AllocError, AllocFailed};
 use std::fmt;

@@ -138,7 +138,8 @@ pub(crate) fn read_whole<D: Disk>(
 ) -> Result<Vec<u8>, PackError>
     requires missing { missing ≢ PackError.Fault }
     requires too_long { too_long ≢ PackError.Fault }
-    ensures { Tries (λ v. v.items) (λ files. OrFault (Is (whole_file missing too_long (file_at path.now files)))) (D.files disk.old) (D.files disk.new) (D.faults disk.old) (D.faults disk.new) result }
+    ensures { Tries (λ v. v.items) (λ files. OrFault (Is (whole_file missing too_long (file_at path.now files)))) (D.files disk.old) (D.files disk.new)
+        (D.faults disk.old) (D.faults disk.new) result }
 {
     match disk.read_file(alloc, path) {
         Ok(bytes) => Ok(bytes),

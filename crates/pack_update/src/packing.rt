@@ -18,8 +18,8 @@ use crate::error::PackError;
 use crate::files::read_whole;
 use base64ct::LineEnding;
 use identity_io::Disk;
-use pack_manifest::{Manifest, ManifestError, ReadError, read_value};
 use identity_update::{BundleParts, EntryParts, Update, UpdateError};
+use pack_manifest::{Manifest, ManifestError, ReadError, read_value};
 use serde_json::Value;
 use std::alloc::Global;
 
@@ -72,7 +72,8 @@ fn pack_parts<D: Disk>(
     disk: &mut D,
     manifest: &Manifest<'_>,
 ) -> Result<Update, PackError>
-    ensures { Tries (λ update. update) (λ files. PackedParts files (manifest_named manifest.now)) (D.files disk.old) (D.files disk.new) (D.faults disk.old) (D.faults disk.new) result }
+    ensures { Tries (λ update. update) (λ files. PackedParts files (manifest_named manifest.now)) (D.files disk.old) (D.files disk.new) (D.faults disk.old)
+        (D.faults disk.new) result }
 {
     let entries = match read_entries(alloc, disk, &manifest.entries) {
         Ok(entries) => entries,
@@ -86,7 +87,8 @@ fn pack_parts<D: Disk>(
 
 // The update of a manifest's text.
 fn pack_text<D: Disk>(alloc: Global, disk: &mut D, text: &[u8]) -> Result<Update, PackError>
-    ensures { Tries (λ update. update) (λ files. PackedText files text.now) (D.files disk.old) (D.files disk.new) (D.faults disk.old) (D.faults disk.new) result }
+    ensures { Tries (λ update. update) (λ files. PackedText files text.now) (D.files disk.old) (D.files disk.new) (D.faults disk.old) (D.faults disk.new)
+        result }
 {
     let value = match value_of(alloc, text) {
         Ok(value) => value,
@@ -105,7 +107,8 @@ pub(crate) fn pack_update<D: Disk>(
     manifest: &str,
     width: usize,
 ) -> Result<Update, PackError>
-    ensures { Tries (λ update. update) (λ files. Packed files manifest.now width) (D.files disk.old) (D.files disk.new) (D.faults disk.old) (D.faults disk.new) result }
+    ensures { Tries (λ update. update) (λ files. Packed files manifest.now width) (D.files disk.old) (D.files disk.new) (D.faults disk.old)
+        (D.faults disk.new) result }
 {
     match check_width(width) {
         Ok(()) => {}

@@ -30,15 +30,20 @@ encoding_some xs = encoding_some_at (nat_lt 128 (length xs)) xs
 bits_some : (content : List ℕ) → IsSome (bits_debug content)
 bits_some [] = refl
 bits_some (unused_bits ∷ octets) =
-    append_some (Some (codes "BitString { unused_bits: ")) _ refl (append_some (Some (decimal unused_bits)) _ refl (append_some (Some (codes ", octets: ")) _ refl (append_some (bytes_debug octets) _ (bytes_some octets) refl)))
+    append_some (Some (codes "BitString { unused_bits: ")) _ refl
+    (append_some (Some (decimal unused_bits)) _ refl (append_some (Some (codes ", octets: ")) _ refl
+    (append_some (bytes_debug octets) _ (bytes_some octets) refl)))
 
 optional_some : {X : Type 0} (text : X → Option (List ℕ)) → ((x : X) → IsSome (text x)) → (o : Option X) → IsSome (debug_option text o)
 optional_some text law None = refl
 optional_some text law (Some x) = append_some (Some (codes "Some")) _ refl (append_some (Some (40 ∷ [])) _ refl (append_some (text x) _ (law x) refl))
 
-pub key_some : {P B : Type 0} (encoding : P → List ℕ) (bits : B → List ℕ) (algorithm : AlgorithmIdentifier P) (public : Option B) → IsSome (key_debug encoding bits algorithm public)
+pub key_some : {P B : Type 0} (encoding : P → List ℕ) (bits : B → List ℕ) (algorithm : AlgorithmIdentifier P) (public : Option B)
+    → IsSome (key_debug encoding bits algorithm public)
 key_some encoding bits algorithm public =
     append_some (Some (codes "PrivateKeyInfo { version: ")) _ refl (append_some (Some (version_debug (version_of public))) _ refl
     (append_some (Some (codes ", algorithm: AlgorithmIdentifier { oid: ")) _ refl (append_some (Some (oid_text (oid_content algorithm.oid))) _ refl
-    (append_some (Some (codes ", parameters: ")) _ refl (append_some (debug_option (λ p. encoding_debug (encoding p)) algorithm.parameters) _ (optional_some _ (λ p. encoding_some (encoding p)) algorithm.parameters)
-    (append_some (Some (codes " }, public_key: ")) _ refl (append_some (debug_option (λ k. bits_debug (bits k)) public) _ (optional_some _ (λ k. bits_some (bits k)) public) refl)))))))
+    (append_some (Some (codes ", parameters: ")) _ refl (append_some (debug_option (λ p. encoding_debug (encoding p)) algorithm.parameters) _
+    (optional_some _ (λ p. encoding_some (encoding p)) algorithm.parameters)
+    (append_some (Some (codes " }, public_key: ")) _ refl (append_some (debug_option (λ k. bits_debug (bits k)) public) _
+    (optional_some _ (λ k. bits_some (bits k)) public) refl)))))))

@@ -12,7 +12,8 @@ is_empty_true [] e = refl
 is_empty_true (x ∷ s) e = let h : length (x ∷ s) ≡ 0 = eqb-true (length (x ∷ s)) 0 e in absurd (omega arith)
 
 -- Where a value stands at the front, the bytes are one value exactly where nothing follows.
-pub one_value_iff : (s : List ℕ) (tag : ℕ) (content rest : List ℕ) → IsTag tag → (s ≡ encode tag content ++ rest) × (length (encode tag content) < 2 ^ 32) → (rest ≡ []) ↔ IsValue s
+pub one_value_iff : (s : List ℕ) (tag : ℕ) (content rest : List ℕ) → IsTag tag → (s ≡ encode tag content ++ rest) × (length (encode tag content) < 2 ^ 32)
+    → (rest ≡ []) ↔ IsValue s
 one_value_iff s tag content rest t found = (
   (λ none.
       let is : s ≡ encode tag content = found.0 ∙ ap (λ (x : List ℕ). encode tag content ++ x) none ∙ append-nil (encode tag content) in
@@ -33,7 +34,8 @@ pub record FirstField (tag : ℕ) (content rest : List ℕ) : Type 0 where
   pub one : IsValue content
   pub next : IsExtensions rest
 
-first_of : (n : ℕ) (s : List ℕ) (tag : ℕ) (content rest : List ℕ) → IsTag tag → (s ≡ encode tag content ++ rest) × (length (encode tag content) < 2 ^ 32) → Extensions n s → FirstField tag content rest
+first_of : (n : ℕ) (s : List ℕ) (tag : ℕ) (content rest : List ℕ) → IsTag tag → (s ≡ encode tag content ++ rest) × (length (encode tag content) < 2 ^ 32)
+    → Extensions n s → FirstField tag content rest
 unfolding Extensions
 first_of zero s tag content rest t found e =
     let empty : length s ≡ 0 = ap length e in
@@ -50,10 +52,12 @@ first_of (suc n) s tag content rest t found e =
       next = record { count = n; are = rw (← same.rests) e.next };
     }
 
-pub first_field : (s : List ℕ) (tag : ℕ) (content rest : List ℕ) → IsTag tag → (s ≡ encode tag content ++ rest) × (length (encode tag content) < 2 ^ 32) → IsExtensions s → FirstField tag content rest
+pub first_field : (s : List ℕ) (tag : ℕ) (content rest : List ℕ) → IsTag tag → (s ≡ encode tag content ++ rest) × (length (encode tag content) < 2 ^ 32)
+    → IsExtensions s → FirstField tag content rest
 first_field s tag content rest t found e = first_of e.count s tag content rest t found e.are
 
-pub with_field : (s : List ℕ) (tag : ℕ) (content rest : List ℕ) → IsTag tag → (s ≡ encode tag content ++ rest) × (length (encode tag content) < 2 ^ 32) → 160 ≤ tag → tag ≤ 190 → IsValue content → IsExtensions rest → IsExtensions s
+pub with_field : (s : List ℕ) (tag : ℕ) (content rest : List ℕ) → IsTag tag → (s ≡ encode tag content ++ rest) × (length (encode tag content) < 2 ^ 32)
+    → 160 ≤ tag → tag ≤ 190 → IsValue content → IsExtensions rest → IsExtensions s
 unfolding Extensions
 with_field s tag content rest t found low high one e = record {
   count = suc e.count;
@@ -63,7 +67,8 @@ with_field s tag content rest t found low high one e = record {
 no_field_at : (n : ℕ) (s : List ℕ) → ((b rest : List ℕ) → IsValue b → s ≡ b ++ rest → ⊥) → Extensions n s → s ≡ []
 unfolding Extensions
 no_field_at zero s none e = e
-no_field_at (suc n) s none e = absurd (none (encode e.tag e.content) e.rest (record { tag = e.tag; content = e.content; tag_ok = e.tag_ok; is = refl; fits = e.fits }) e.is)
+no_field_at (suc n) s none e = absurd (none (encode e.tag e.content) e.rest
+    (record { tag = e.tag; content = e.content; tag_ok = e.tag_ok; is = refl; fits = e.fits }) e.is)
 
 pub no_field : (s : List ℕ) → ((b rest : List ℕ) → IsValue b → s ≡ b ++ rest → ⊥) → IsExtensions s → s ≡ []
 no_field s none e = no_field_at e.count s none e.are

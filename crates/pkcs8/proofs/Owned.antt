@@ -38,7 +38,8 @@ record SomeTagged {B : Type 0} (H : List ℕ → B → Type 0) (tag : ℕ) (b : 
   value : B
   reads : ReadsTagged tag H b value
 
-tagged_back : {B C : Type 0} (H : List ℕ → B → Type 0) (J : List ℕ → C → Type 0) → BorrowsContent H J → (tag : ℕ) (b : List ℕ) (v : C) → ReadsTagged tag J b v → SomeTagged H tag b
+tagged_back : {B C : Type 0} (H : List ℕ → B → Type 0) (J : List ℕ → C → Type 0) → BorrowsContent H J → (tag : ℕ) (b : List ℕ) (v : C)
+    → ReadsTagged tag J b v → SomeTagged H tag b
 tagged_back H J of tag b v r =
     let fits = content_fits tag r.content (subst (λ (x : List ℕ). length x < 2 ^ 32) r.is r.fits) in
     record {
@@ -51,7 +52,8 @@ record SomePublic {B C : Type 0} (H : List ℕ → B → Type 0) (k : Option C) 
   version : version_of public ≡ version_of k
   after : AfterAttributes H public s
 
-public_back : {B C : Type 0} (H : List ℕ → B → Type 0) (J : List ℕ → C → Type 0) → BorrowsContent H J → (k : Option C) (s : List ℕ) → AfterAttributes J k s → SomePublic H k s
+public_back : {B C : Type 0} (H : List ℕ → B → Type 0) (J : List ℕ → C → Type 0) → BorrowsContent H J → (k : Option C) (s : List ℕ) → AfterAttributes J k s
+    → SomePublic H k s
 public_back H J of None s a = record { public = None; version = refl; after = a }
 public_back H J of (Some k) s a =
     let back = tagged_back H J of public_key_tag a.front k a.reads in
@@ -63,7 +65,8 @@ record SomeTail {B T C : Type 0} (HT : List ℕ → T → Type 0) (HB : List ℕ
   version : version_of public ≡ version_of k
   after : AfterKey HT HB attributes public s
 
-tail_back : {B T C U : Type 0} (HT : List ℕ → T → Type 0) (HB : List ℕ → B → Type 0) (JT : List ℕ → U → Type 0) (JB : List ℕ → C → Type 0) → BorrowsContent HT JT → BorrowsContent HB JB → (t : Option U) (k : Option C) (s : List ℕ) → AfterKey JT JB t k s → SomeTail HT HB k s
+tail_back : {B T C U : Type 0} (HT : List ℕ → T → Type 0) (HB : List ℕ → B → Type 0) (JT : List ℕ → U → Type 0) (JB : List ℕ → C → Type 0)
+    → BorrowsContent HT JT → BorrowsContent HB JB → (t : Option U) (k : Option C) (s : List ℕ) → AfterKey JT JB t k s → SomeTail HT HB k s
 tail_back HT HB JT JB ofT ofB None k s a =
     let back = public_back HB JB ofB k s a.1 in
     record { attributes = None; public = back.public; version = back.version; after = (a.0, back.after) }
@@ -81,11 +84,13 @@ record SomeFields {A K B T : Type 0} (reads : PartReads A K B T) (s : List ℕ) 
   parts : KeyParts A K B T
   fields : PrivateKeyFields reads s parts
 
-fields_back : {A K B T A' K' B' T' : Type 0} (reads : PartReads A K B T) (plain : PartReads A' K' B' T') → PartsBack reads plain → (s : List ℕ) (v : KeyParts A' K' B' T') → PrivateKeyFields plain s v → SomeFields reads s
+fields_back : {A K B T A' K' B' T' : Type 0} (reads : PartReads A K B T) (plain : PartReads A' K' B' T') → PartsBack reads plain
+    → (s : List ℕ) (v : KeyParts A' K' B' T') → PrivateKeyFields plain s v → SomeFields reads s
 fields_back reads plain back s v t =
     let algorithm = t.next in
     let key = algorithm.next in
-    let tail = tail_back reads.attributes reads.public_key plain.attributes plain.public_key back.attributes back.public_key v.attributes v.public_key key.rest key.next in
+    let tail = tail_back reads.attributes reads.public_key plain.attributes plain.public_key back.attributes back.public_key v.attributes v.public_key
+    key.rest key.next in
     record {
       parts = record {
         algorithm = back.algorithm.borrowed algorithm.front v.algorithm algorithm.reads;
@@ -141,11 +146,13 @@ to_plain = record {
   has_public_key = λ c v h. record { bits = v.are_bits; is = h };
 }
 
-pub key_plain : (c : List ℕ) (v : PrivateKeyInfo AnyRef OctetStringRef BitStringRef AttributesRef) → KeyContentRef c v → PlainKeyContent c (plain_private_key_ref v)
+pub key_plain : (c : List ℕ) (v : PrivateKeyInfo AnyRef OctetStringRef BitStringRef AttributesRef) → KeyContentRef c v
+    → PlainKeyContent c (plain_private_key_ref v)
 unfolding to_plain
 key_plain c v t = fields_to borrowed_reads plain_reads to_plain c (parts_of v) t
 
-pub reads_plain : (b : List ℕ) (v : PrivateKeyInfo AnyRef OctetStringRef BitStringRef AttributesRef) → ReadsTagged 48 KeyContentRef b v → ReadsPrivateKey b (plain_private_key_ref v)
+pub reads_plain : (b : List ℕ) (v : PrivateKeyInfo AnyRef OctetStringRef BitStringRef AttributesRef) → ReadsTagged 48 KeyContentRef b v
+    → ReadsPrivateKey b (plain_private_key_ref v)
 reads_plain b v r = record { content = r.content; has = key_plain r.content v r.has; is = r.is; fits = r.fits }
 
 -- The borrowed forms of the parts that are octets and bits, where these can be borrowed.
@@ -157,7 +164,12 @@ pub record BorrowsParts : Type 0 where
 
 key_back : BorrowsParts → (c : List ℕ) (p : PlainPrivateKey) → PlainKeyContent c p → SomeFields borrowed_reads c
 key_back borrows c p t =
-    fields_back borrowed_reads plain_reads (record { algorithm = same_algorithms borrows.any; private_key = borrows.octets; attributes = borrows.attributes; public_key = borrows.bits }) c p t
+    fields_back borrowed_reads plain_reads (record {
+      algorithm = same_algorithms borrows.any;
+      private_key = borrows.octets;
+      attributes = borrows.attributes;
+      public_key = borrows.bits;
+    }) c p t
 
 pub same_private_keys : BorrowsParts → SameReads (ReadsTagged 48 KeyContentRef) ReadsPrivateKey
 same_private_keys borrows =

@@ -32,7 +32,12 @@ written_one : {V : Type 0} (Reads : List ℕ → V → Type 0) → ContentOne (W
 written_one Reads b x y r s = r.is ∙ sym s.is
 
 abbrev written_reads : {A K B T : Type 0} → PartReads A K B T → PartReads (List ℕ) (List ℕ) (List ℕ) (List ℕ)
-written_reads reads = record { algorithm = Written reads.algorithm; private_key = Written reads.private_key; attributes = Written reads.attributes; public_key = Written reads.public_key }
+written_reads reads = record {
+  algorithm = Written reads.algorithm;
+  private_key = Written reads.private_key;
+  attributes = Written reads.attributes;
+  public_key = Written reads.public_key;
+}
 
 abbrev texts_of : {A K B T : Type 0} → PartTexts A K B T → KeyParts A K B T → KeyParts (List ℕ) (List ℕ) (List ℕ) (List ℕ)
 texts_of texts v = map_parts texts.algorithm texts.private_key texts.public_key texts.attributes v
@@ -54,11 +59,13 @@ module _ {A K B T : Type 0} (reads : PartReads A K B T) (texts : PartTexts A K B
     has_public_key = written reads.public_key texts.public_key law.public_key;
   }
 
-  fields_of_texts : PartsWritten reads texts → (s : List ℕ) (v : KeyParts A K B T) → PrivateKeyFields reads s v → PrivateKeyFields (written_reads reads) s (texts_of texts v)
+  fields_of_texts : PartsWritten reads texts → (s : List ℕ) (v : KeyParts A K B T) → PrivateKeyFields reads s v
+      → PrivateKeyFields (written_reads reads) s (texts_of texts v)
   unfolding to_texts
   fields_of_texts law s v r = fields_to reads (written_reads reads) (to_texts law) s v r
 
-  same_texts : PartValues reads → PartsWritten reads texts → (s : List ℕ) (v w : KeyParts A K B T) → PrivateKeyFields reads s v → PrivateKeyFields reads s w → texts_of texts v ≡ texts_of texts w
+  same_texts : PartValues reads → PartsWritten reads texts → (s : List ℕ) (v w : KeyParts A K B T) → PrivateKeyFields reads s v → PrivateKeyFields reads s w
+      → texts_of texts v ≡ texts_of texts w
   same_texts values law s v w r r' =
       one_fields (written_reads reads)
       (record {
@@ -69,14 +76,21 @@ module _ {A K B T : Type 0} (reads : PartReads A K B T) (texts : PartTexts A K B
       })
       s (texts_of texts v) (texts_of texts w) (fields_of_texts law s v r) (fields_of_texts law s w r')
 
-from_texts : {A K B T : Type 0} (texts : PartTexts A K B T) (a : A) (k : K) (t : Option T) (b : Option B) → fields_written texts (record { algorithm = a; private_key = k; attributes = t; public_key = b }) ≡ fields_written as_they_are (texts_of texts (record { algorithm = a; private_key = k; attributes = t; public_key = b }))
+from_texts : {A K B T : Type 0} (texts : PartTexts A K B T) (a : A) (k : K) (t : Option T) (b : Option B)
+    → fields_written texts (record { algorithm = a; private_key = k; attributes = t; public_key = b })
+    ≡ fields_written as_they_are (texts_of texts (record { algorithm = a; private_key = k; attributes = t; public_key = b }))
 from_texts texts a k None None = refl
 from_texts texts a k None (Some b) = refl
 from_texts texts a k (Some t) None = refl
 from_texts texts a k (Some t) (Some b) = refl
 
-pub written_alike : {P K B T : Type 0} (reads : PartReads (AlgorithmIdentifier P) K B T) (texts : PartTexts (AlgorithmIdentifier P) K B T) → PartValues reads → PartsWritten reads texts → (bytes : List ℕ) (v w : PrivateKeyInfo P K B T) → ReadsTagged 48 (PrivateKeyContent reads) bytes v → ReadsTagged 48 (PrivateKeyContent reads) bytes w → private_key_encoding texts v ≡ private_key_encoding texts w
+pub written_alike : {P K B T : Type 0} (reads : PartReads (AlgorithmIdentifier P) K B T) (texts : PartTexts (AlgorithmIdentifier P) K B T)
+    → PartValues reads → PartsWritten reads texts → (bytes : List ℕ) (v w : PrivateKeyInfo P K B T) → ReadsTagged 48 (PrivateKeyContent reads) bytes v
+    → ReadsTagged 48 (PrivateKeyContent reads) bytes w → private_key_encoding texts v ≡ private_key_encoding texts w
 written_alike reads texts values law bytes v w r s =
     let is = same_contents 48 (PrivateKeyContent reads) tag_48 bytes v w r s in
-    let alike = same_texts reads texts values law s.content (parts_of v) (parts_of w) (subst (λ (x : List ℕ). PrivateKeyFields reads x (parts_of v)) is r.has) s.has in
-    ap (λ (x : List ℕ). encode 48 x) (from_texts texts v.algorithm v.private_key v.attributes v.public_key ∙ ap (λ (x : KeyParts (List ℕ) (List ℕ) (List ℕ) (List ℕ)). fields_written as_they_are x) alike ∙ sym (from_texts texts w.algorithm w.private_key w.attributes w.public_key))
+    let alike = same_texts reads texts values law s.content (parts_of v) (parts_of w)
+    (subst (λ (x : List ℕ). PrivateKeyFields reads x (parts_of v)) is r.has) s.has in
+    ap (λ (x : List ℕ). encode 48 x) (from_texts texts v.algorithm v.private_key v.attributes v.public_key
+    ∙ ap (λ (x : KeyParts (List ℕ) (List ℕ) (List ℕ) (List ℕ)). fields_written as_they_are x) alike
+    ∙ sym (from_texts texts w.algorithm w.private_key w.attributes w.public_key))

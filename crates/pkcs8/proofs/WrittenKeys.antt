@@ -1,5 +1,6 @@
 -- What is written of a private key is read again.
-use Rattle.std.proofs.Common.{◌≡◌, ℕ, ◌<◌, ◌^◌, List, [], ◌∷◌, ◌++◌, length, Option, Some, None, IfSome, refl, sym, ap, ◌∙◌, arith, append_assoc, append-nil, length-append}
+use Rattle.std.proofs.Common.{◌≡◌, ℕ, ◌<◌, ◌^◌, List, [], ◌∷◌, ◌++◌, length, Option, Some, None, IfSome, refl, sym, ap, ◌∙◌, arith, append_assoc, append-nil}
+use Rattle.std.proofs.Common.{length-append}
 use Rattle.der_core.specs.Decode.{ReadsTagged}
 use Rattle.der_core.specs.Der.{encode}
 use Rattle.der_core.specs.Laws.{content_fits, length_encode}
@@ -10,13 +11,15 @@ use Rattle.der_small.specs.Bits.{PlainBits, BitsContent}
 use Rattle.spki.specs.declared.algorithm.AlgorithmIdentifier.{AlgorithmIdentifier}
 use Rattle.pkcs8.specs.Version.{version_byte, version_of}
 use Rattle.pkcs8.specs.PlainPrivateKey.{PlainPrivateKey, ReadsPrivateKey, bits_content, plain_reads, plain_texts, private_key_der}
-use Rattle.pkcs8.specs.PrivateKey.{KeyParts, PartReads, PartTexts, AfterAttributes, AfterKey, NoField, PrivateKeyFields, attributes_tag, fields_written, optional_field, public_key_tag}
+use Rattle.pkcs8.specs.PrivateKey.{KeyParts, PartReads, PartTexts, AfterAttributes, AfterKey, NoField, PrivateKeyFields, attributes_tag, fields_written}
+use Rattle.pkcs8.specs.PrivateKey.{optional_field, public_key_tag}
 use Rattle.pkcs8.specs.PrivateKeyInfo.{PrivateKeyContent, parts_of, private_key_content, private_key_encoding}
 use Rattle.pkcs8.specs.ReadLaws.{reads_one_private_key}
 use Rattle.pkcs8.specs.declared.private_key_info.PrivateKeyInfo.{PrivateKeyInfo}
 use Rattle.pkcs8.proofs.Fields.{no_fields}
 
-public_reads : {B : Type 0} (HB : List ℕ → B → Type 0) (text : B → List ℕ) (k : Option B) → IfSome k (λ k. HB (text k) k) → length (optional_field public_key_tag text k) < 2 ^ 32 → AfterAttributes HB k (optional_field public_key_tag text k)
+public_reads : {B : Type 0} (HB : List ℕ → B → Type 0) (text : B → List ℕ) (k : Option B) → IfSome k (λ k. HB (text k) k)
+    → length (optional_field public_key_tag text k) < 2 ^ 32 → AfterAttributes HB k (optional_field public_key_tag text k)
 public_reads HB text None law fits = no_fields [] refl
 public_reads HB text (Some k) law fits = record {
   front = encode public_key_tag (text k);
@@ -27,16 +30,21 @@ public_reads HB text (Some k) law fits = record {
 }
 
 -- A public key is no attributes, nor is nothing.
-no_attributes : {B : Type 0} (text : B → List ℕ) (k : Option B) → length (optional_field public_key_tag text k) < 2 ^ 32 → NoField attributes_tag (optional_field public_key_tag text k)
+no_attributes : {B : Type 0} (text : B → List ℕ) (k : Option B) → length (optional_field public_key_tag text k) < 2 ^ 32
+    → NoField attributes_tag (optional_field public_key_tag text k)
 no_attributes text None fits content rest short is =
     let long : length (encode attributes_tag content ++ rest) ≡ 0 = sym (ap (λ (x : List ℕ). length x) is) in
     absurd (omega (arith, long, length-append (encode attributes_tag content) rest, length_encode attributes_tag content))
 no_attributes text (Some k) fits content rest short is =
-    let same = same_value public_key_tag (text k) [] attributes_tag content rest tag_129 fits tag_160 short (append-nil (encode public_key_tag (text k)) ∙ is) in
+    let same = same_value public_key_tag (text k) [] attributes_tag content rest tag_129 fits tag_160 short
+    (append-nil (encode public_key_tag (text k)) ∙ is) in
     let tags : public_key_tag ≡ attributes_tag = same.tags in
     absurd (omega arith)
 
-tail_reads : {B T : Type 0} (HT : List ℕ → T → Type 0) (HB : List ℕ → B → Type 0) (textT : T → List ℕ) (textB : B → List ℕ) (t : Option T) (k : Option B) → IfSome t (λ t. HT (textT t) t) → IfSome k (λ k. HB (textB k) k) → length (optional_field attributes_tag textT t) < 2 ^ 32 → length (optional_field public_key_tag textB k) < 2 ^ 32 → AfterKey HT HB t k (optional_field attributes_tag textT t ++ optional_field public_key_tag textB k)
+tail_reads : {B T : Type 0} (HT : List ℕ → T → Type 0) (HB : List ℕ → B → Type 0) (textT : T → List ℕ) (textB : B → List ℕ) (t : Option T) (k : Option B)
+    → IfSome t (λ t. HT (textT t) t) → IfSome k (λ k. HB (textB k) k) → length (optional_field attributes_tag textT t) < 2 ^ 32
+    → length (optional_field public_key_tag textB k) < 2 ^ 32
+    → AfterKey HT HB t k (optional_field attributes_tag textT t ++ optional_field public_key_tag textB k)
 tail_reads HT HB textT textB None k lawT lawB fitsT fitsB = (no_attributes textB k fitsB, public_reads HB textB k lawB fitsB)
 tail_reads HT HB textT textB (Some t) k lawT lawB fitsT fitsB = record {
   front = encode attributes_tag (textT t);
@@ -66,12 +74,21 @@ fields_fit n a k t d fits =
     let f3 = front_fits (n ++ a ++ k) (t ++ d) fits in
     let f2 = front_fits (n ++ a) k f3 in
     let tail = rest_fits (n ++ a ++ k) (t ++ d) fits in
-    record { version = front_fits n a f2; algorithm = rest_fits n a f2; private_key = rest_fits (n ++ a) k f3; attributes = front_fits t d tail; public_key = rest_fits t d tail }
+    record {
+      version = front_fits n a f2;
+      algorithm = rest_fits n a f2;
+      private_key = rest_fits (n ++ a) k f3;
+      attributes = front_fits t d tail;
+      public_key = rest_fits t d tail;
+    }
 
-pub fits_of : {A K B T : Type 0} (texts : PartTexts A K B T) (v : KeyParts A K B T) → length (fields_written texts v) < 2 ^ 32 → FieldsFit (encode 2 (version_byte (version_of v.public_key) ∷ [])) (texts.algorithm v.algorithm) (texts.private_key v.private_key) (optional_field attributes_tag texts.attributes v.attributes) (optional_field public_key_tag texts.public_key v.public_key)
+pub fits_of : {A K B T : Type 0} (texts : PartTexts A K B T) (v : KeyParts A K B T) → length (fields_written texts v) < 2 ^ 32
+    → FieldsFit (encode 2 (version_byte (version_of v.public_key) ∷ [])) (texts.algorithm v.algorithm) (texts.private_key v.private_key)
+    (optional_field attributes_tag texts.attributes v.attributes) (optional_field public_key_tag texts.public_key v.public_key)
 fits_of texts v fits = fields_fit _ _ _ _ _ fits
 
-pub written_fields : {A K B T : Type 0} (reads : PartReads A K B T) (texts : PartTexts A K B T) (v : KeyParts A K B T) → PartsRead reads texts v → length (fields_written texts v) < 2 ^ 32 → PrivateKeyFields reads (fields_written texts v) v
+pub written_fields : {A K B T : Type 0} (reads : PartReads A K B T) (texts : PartTexts A K B T) (v : KeyParts A K B T) → PartsRead reads texts v
+    → length (fields_written texts v) < 2 ^ 32 → PrivateKeyFields reads (fields_written texts v) v
 written_fields reads texts v law fits =
     let n : List ℕ = encode 2 (version_byte (version_of v.public_key) ∷ []) in
     let a : List ℕ = texts.algorithm v.algorithm in
@@ -94,7 +111,8 @@ written_fields reads texts v law fits =
           rest = t ++ d;
           is = refl;
           reads = law.private_key;
-          next = tail_reads reads.attributes reads.public_key texts.attributes texts.public_key v.attributes v.public_key law.attributes law.public_key fit.attributes fit.public_key;
+          next = tail_reads reads.attributes reads.public_key texts.attributes texts.public_key v.attributes v.public_key law.attributes law.public_key
+              fit.attributes fit.public_key;
         };
       };
     }
@@ -106,11 +124,14 @@ pub record PartsReadAgain {A K B T : Type 0} (reads : PartReads A K B T) (texts 
   pub attributes : (v : T) → length (texts.attributes v) < 2 ^ 32 → reads.attributes (texts.attributes v) v
   pub public_key : (v : B) → length (texts.public_key v) < 2 ^ 32 → reads.public_key (texts.public_key v) v
 
-some_read : {X : Type 0} (H : List ℕ → X → Type 0) (text : X → List ℕ) (tag : ℕ) (o : Option X) → ((x : X) → length (text x) < 2 ^ 32 → H (text x) x) → length (optional_field tag text o) < 2 ^ 32 → IfSome o (λ x. H (text x) x)
+some_read : {X : Type 0} (H : List ℕ → X → Type 0) (text : X → List ℕ) (tag : ℕ) (o : Option X) → ((x : X) → length (text x) < 2 ^ 32 → H (text x) x)
+    → length (optional_field tag text o) < 2 ^ 32 → IfSome o (λ x. H (text x) x)
 some_read H text tag None law fits = tt
 some_read H text tag (Some x) law fits = law x (content_fits tag (text x) fits)
 
-pub written_key : {P K B T : Type 0} (reads : PartReads (AlgorithmIdentifier P) K B T) (texts : PartTexts (AlgorithmIdentifier P) K B T) → PartsReadAgain reads texts → (v : PrivateKeyInfo P K B T) → length (private_key_encoding texts v) < 2 ^ 32 → ReadsTagged 48 (PrivateKeyContent reads) (private_key_encoding texts v) v
+pub written_key : {P K B T : Type 0} (reads : PartReads (AlgorithmIdentifier P) K B T) (texts : PartTexts (AlgorithmIdentifier P) K B T)
+    → PartsReadAgain reads texts → (v : PrivateKeyInfo P K B T) → length (private_key_encoding texts v) < 2 ^ 32
+    → ReadsTagged 48 (PrivateKeyContent reads) (private_key_encoding texts v) v
 written_key reads texts law v fits =
     let fields = content_fits 48 (private_key_content texts v) fits in
     let fit = fits_of texts (parts_of v) fields in
@@ -134,11 +155,13 @@ public_bits : (s : List ℕ) (b : Option PlainBits) → AfterAttributes BitsCont
 public_bits s None a = tt
 public_bits s (Some k) a = record { bits = a.reads.has.bits; is = refl }
 
-some_bits : (s : List ℕ) (t : Option (List ℕ)) (b : Option PlainBits) → AfterKey plain_reads.attributes BitsContent t b s → IfSome b (λ k. BitsContent (bits_content k) k)
+some_bits : (s : List ℕ) (t : Option (List ℕ)) (b : Option PlainBits) → AfterKey plain_reads.attributes BitsContent t b s
+    → IfSome b (λ k. BitsContent (bits_content k) k)
 some_bits s None b a = public_bits s b a.1
 some_bits s (Some t) b a = public_bits a.rest b a.next
 
-pub written_plain : (bytes : List ℕ) (key : PlainPrivateKey) → ReadsPrivateKey bytes key → length (private_key_der key) < 2 ^ 32 → ReadsPrivateKey (private_key_der key) key
+pub written_plain : (bytes : List ℕ) (key : PlainPrivateKey) → ReadsPrivateKey bytes key → length (private_key_der key) < 2 ^ 32
+    → ReadsPrivateKey (private_key_der key) key
 written_plain bytes key r fits =
     let fields = content_fits 48 (fields_written plain_texts key) fits in
     let fit = fits_of plain_texts key fields in

@@ -29,7 +29,13 @@ abbrev pub bits_content : PlainBits → List ℕ
 bits_content v = v.unused_bits ∷ v.octets
 
 abbrev pub plain_texts : PartTexts PlainAlgorithm (List ℕ) PlainBits (List ℕ)
-plain_texts = record { algorithm = algorithm_der; private_key = λ octets. encode octet_string_tag octets; attributes = λ content. content; public_key = bits_content }
+plain_texts = record {
+  algorithm = algorithm_der;
+  private_key = λ octets. encode octet_string_tag octets;
+  attributes = λ content. content;
+  public_key =
+      bits_content;
+}
 
 -- What is written of it.
 abbrev pub private_key_der : PlainPrivateKey → List ℕ
@@ -40,7 +46,13 @@ abbrev pub ReadsOctets : List ℕ → List ℕ → Type 0
 ReadsOctets = ReadsTagged octet_string_tag (λ content octets. octets ≡ content)
 
 abbrev pub plain_reads : PartReads PlainAlgorithm (List ℕ) PlainBits (List ℕ)
-plain_reads = record { algorithm = ReadsAlgorithm; private_key = ReadsOctets; attributes = λ content attributes. attributes ≡ content; public_key = BitsContent }
+plain_reads = record {
+  algorithm = ReadsAlgorithm;
+  private_key = ReadsOctets;
+  attributes = λ content attributes. attributes ≡ content;
+  public_key =
+      BitsContent;
+}
 
 abbrev pub PlainKeyContent : List ℕ → PlainPrivateKey → Type 0
 PlainKeyContent = PrivateKeyFields plain_reads

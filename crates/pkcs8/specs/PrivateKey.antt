@@ -1,4 +1,5 @@
--- Private keys (RFC 5208, 5, and RFC 5958, 2): SEQUENCE { version, algorithm, privateKey OCTET STRING, attributes [0] OPTIONAL, publicKey [1] OPTIONAL, extensions }.
+-- Private keys (RFC 5208, 5, and RFC 5958, 2): SEQUENCE { version, algorithm, privateKey OCTET STRING, attributes [0] OPTIONAL, publicKey [1]
+-- OPTIONAL, extensions }.
 use Rattle.std.specs.Prelude.{◌≡◌, ℕ, ◌∷◌, ◌<◌, ◌^◌, List, [], ◌++◌, length, Option, Some, None, option_map}
 use Rattle.der_core.specs.Decode.{ReadsTagged}
 use Rattle.der_core.specs.Der.{encode}
@@ -17,7 +18,13 @@ pub record KeyParts (A K B T : Type 0) : Type 0 where
 
 -- The same parts, each seen in another way.
 abbrev pub map_parts : {A K B T A' K' B' T' : Type 0} → (A → A') → (K → K') → (B → B') → (T → T') → KeyParts A K B T → KeyParts A' K' B' T'
-map_parts f g h j v = record { algorithm = f v.algorithm; private_key = g v.private_key; attributes = option_map j v.attributes; public_key = option_map h v.public_key }
+map_parts f g h j v = record {
+  algorithm = f v.algorithm;
+  private_key = g v.private_key;
+  attributes = option_map j v.attributes;
+  public_key =
+      option_map h v.public_key;
+}
 
 -- What the parts read as: the algorithm and the private key from their encodings, the attributes and the public key from their contents.
 pub record PartReads (A K B T : Type 0) : Type 1 where
@@ -78,4 +85,5 @@ after_key_written textT textB attributes public = optional_field attributes_tag 
 -- What is written of the fields: no extensions.
 abbrev pub fields_written : {A K B T : Type 0} → PartTexts A K B T → KeyParts A K B T → List ℕ
 fields_written texts v =
-    encode integer_tag (version_byte (version_of v.public_key) ∷ []) ++ texts.algorithm v.algorithm ++ texts.private_key v.private_key ++ after_key_written texts.attributes texts.public_key v.attributes v.public_key
+    encode integer_tag (version_byte (version_of v.public_key) ∷ []) ++ texts.algorithm v.algorithm ++ texts.private_key v.private_key
+    ++ after_key_written texts.attributes texts.public_key v.attributes v.public_key

@@ -1,5 +1,6 @@
 -- One answer to each list of bytes, and one to each value.
-use Rattle.std.proofs.Common.{◌≡◌, ℕ, zero, suc, ◌<◌, ◌^◌, nat_lt, List, [], ◌∷◌, ◌++◌, length, Bool, true, false, Option, Some, None, Result, Ok, Err, refl, sym, ap, subst, ◌∙◌, if◌then◌else◌}
+use Rattle.std.proofs.Common.{◌≡◌, ℕ, zero, suc, ◌<◌, ◌^◌, nat_lt, List, [], ◌∷◌, ◌++◌, length, Bool, true, false, Option, Some, None, Result, Ok, Err, refl}
+use Rattle.std.proofs.Common.{sym, ap, subst, ◌∙◌, if◌then◌else◌}
 use Rattle.der_core.specs.Decode.{ReadsTagged, ReadsTagged-one_value}
 use Rattle.der_core.specs.Der.{IsTag, IsValue, encode}
 use Rattle.der_core.specs.Sequence.{Then}
@@ -138,7 +139,8 @@ one_tail HT HB oneT oneB s None (Some u) k l e a b = absurd (not_without HT (Aft
 one_tail HT HB oneT oneB s (Some t) None k l e a b = absurd (not_without HT (AfterAttributes HB k) s t b.0 a)
 one_tail {T = T} HT HB oneT oneB s (Some t) (Some u) k l e a b =
     let some : T → Option T = λ x. Some x in
-    let both = both_then (ReadsTagged attributes_tag HT) (AfterAttributes HB k) (AfterAttributes HB l) s t u (λ b v r. ReadsTagged-one_value attributes_tag HT b v tag_160 r) a b in
+    let both = both_then (ReadsTagged attributes_tag HT) (AfterAttributes HB k) (AfterAttributes HB l) s t u
+    (λ b v r. ReadsTagged-one_value attributes_tag HT b v tag_160 r) a b in
     (ap some (tagged_one attributes_tag HT tag_160 oneT both.front t u both.reads both.reads'), one_public HB oneB both.rest k l e both.next both.next')
 
 -- Each part is one for each encoding, or for each content.
@@ -152,10 +154,18 @@ pub record PartsOne {A K B T : Type 0} (reads : PartReads A K B T) : Type 0 wher
 pub same_parts : {A K B T : Type 0} (v w : KeyParts A K B T) → v.algorithm ≡ w.algorithm →
     v.private_key ≡ w.private_key → v.attributes ≡ w.attributes → v.public_key ≡ w.public_key → v ≡ w
 same_parts {A = A} {K = K} {B = B} {T = T} v w a k t b =
-    let with_algorithm : A → KeyParts A K B T = λ x. record { algorithm = x; private_key = v.private_key; attributes = v.attributes; public_key = v.public_key } in
+    let with_algorithm : A → KeyParts A K B T = λ x. record {
+      algorithm = x;
+      private_key = v.private_key;
+      attributes = v.attributes;
+      public_key =
+          v.public_key;
+    } in
     let with_key : K → KeyParts A K B T = λ x. record { algorithm = w.algorithm; private_key = x; attributes = v.attributes; public_key = v.public_key } in
-    let with_attributes : Option T → KeyParts A K B T = λ x. record { algorithm = w.algorithm; private_key = w.private_key; attributes = x; public_key = v.public_key } in
-    let with_public : Option B → KeyParts A K B T = λ x. record { algorithm = w.algorithm; private_key = w.private_key; attributes = w.attributes; public_key = x } in
+    let with_attributes : Option T → KeyParts A K B T = λ x. record
+    { algorithm = w.algorithm; private_key = w.private_key; attributes = x; public_key = v.public_key } in
+    let with_public : Option B → KeyParts A K B T = λ x. record
+    { algorithm = w.algorithm; private_key = w.private_key; attributes = w.attributes; public_key = x } in
     ap with_algorithm a ∙ ap with_key k ∙ ap with_attributes t ∙ ap with_public b
 
 pub one_fields : {A K B T : Type 0} (reads : PartReads A K B T) → PartsOne reads →
@@ -164,10 +174,13 @@ one_fields reads one s v w r r' =
     let versions = both_then ReadsVersion _ _ s (version_of v.public_key) (version_of w.public_key) version_value r r' in
     let algorithms = both_then reads.algorithm _ _ versions.rest v.algorithm w.algorithm one.algorithm.value versions.next versions.next' in
     let keys = both_then reads.private_key (AfterKey reads.attributes reads.public_key v.attributes v.public_key)
-    (AfterKey reads.attributes reads.public_key w.attributes w.public_key) algorithms.rest v.private_key w.private_key one.private_key.value algorithms.next algorithms.next' in
+    (AfterKey reads.attributes reads.public_key w.attributes w.public_key) algorithms.rest v.private_key w.private_key one.private_key.value algorithms.next
+    algorithms.next' in
     let version = one_version versions.front (version_of v.public_key) (version_of w.public_key) versions.reads versions.reads' in
-    let tails = one_tail reads.attributes reads.public_key one.attributes one.public_key keys.rest v.attributes w.attributes v.public_key w.public_key version keys.next keys.next' in
-    same_parts v w (one.algorithm.one algorithms.front v.algorithm w.algorithm algorithms.reads algorithms.reads') (one.private_key.one keys.front v.private_key w.private_key keys.reads keys.reads') tails.0 tails.1
+    let tails = one_tail reads.attributes reads.public_key one.attributes one.public_key keys.rest v.attributes w.attributes v.public_key w.public_key
+    version keys.next keys.next' in
+    same_parts v w (one.algorithm.one algorithms.front v.algorithm w.algorithm algorithms.reads algorithms.reads')
+    (one.private_key.one keys.front v.private_key w.private_key keys.reads keys.reads') tails.0 tails.1
 
 one_bits : (c : List ℕ) (v w : PlainBits) → BitsContent c v → BitsContent c w → v ≡ w
 one_bits c v w h k =
@@ -182,7 +195,13 @@ octets_one = record {
 }
 
 key_one : (c : List ℕ) (p q : PlainPrivateKey) → PlainKeyContent c p → PlainKeyContent c q → p ≡ q
-key_one = one_fields plain_reads (record { algorithm = record { value = algorithm_value; one = algorithm_one }; private_key = octets_one; attributes = λ c v w h k. h ∙ sym k; public_key = one_bits })
+key_one = one_fields plain_reads (record {
+  algorithm = record { value = algorithm_value; one = algorithm_one };
+  private_key = octets_one;
+  attributes =
+      λ c v w h k. h ∙ sym k;
+  public_key = one_bits;
+})
 
 pub reads_one_private_key : ReadsOne ReadsPrivateKey
 reads_one_private_key = record {

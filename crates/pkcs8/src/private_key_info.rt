@@ -137,7 +137,12 @@ impl<
     PubKey: BitStringLike,
     Attrs: EncodeValue,
 > EncodeValue for PrivateKeyInfo<Params, Key, PubKey, Attrs> {
-    ghost content = { private_key_content (record { algorithm = algorithm_encoding Params.encoding; private_key = λ key. encode Key.tag (Key.content key); attributes = Attrs.content; public_key = PubKey.bits }) };
+    ghost content = { private_key_content (record {
+      algorithm = algorithm_encoding Params.encoding;
+      private_key = λ key. encode Key.tag (Key.content key);
+      attributes = Attrs.content;
+      public_key = PubKey.bits;
+    }) };
 
     fn value_len(&self) -> der_small::Result<Length> {
         let version = self.version().encoded_len()?;

@@ -63,7 +63,8 @@ pub(crate) fn after_key<'a, Attrs: DecodeValue<'a>, PubKey: DecodeValue<'a>>(
     ensures value { IfOk result (λ tail. AfterKey Attrs.HasContent PubKey.HasContent tail.attributes tail.public_key bytes.now) }
     ensures version { IfOk result (λ tail. version_of tail.public_key ≡ version) }
     ensures malformed { IfErr result (λ e. e ≡ Error.Malformed) }
-    ensures none { OnErr result ((t : Maybe Attrs) (k : Maybe PubKey) → version_of k ≡ version → AfterKey Attrs.HasContent PubKey.HasContent t k bytes.now → ⊥) }
+    ensures none { OnErr result ((t : Maybe Attrs) (k : Maybe PubKey) → version_of k ≡ version → AfterKey Attrs.HasContent PubKey.HasContent t k bytes.now
+        → ⊥) }
 {
     let Some((content, rest)) = field_at(Tag::from_valid(ATTRIBUTES), bytes) else {
         let Ok(public_key) = after_attributes(version, bytes) else {
@@ -138,7 +139,8 @@ pub(crate) fn encode_tail<Attrs: EncodeValue, PubKey: BitStringLike, W: Writer>(
     writer: &mut W,
 ) -> Result<()>
     requires { length (after_key_written Attrs.content PubKey.bits attributes.now public_key.now) < 2 ^ 32 }
-    ensures wrote { Wrote W.HasTold W.refusals W.last_refusal writer.old writer.new (after_key_written Attrs.content PubKey.bits attributes.now public_key.now) result }
+    ensures wrote { Wrote W.HasTold W.refusals W.last_refusal writer.old writer.new
+        (after_key_written Attrs.content PubKey.bits attributes.now public_key.now) result }
     ensures count { W.refusals writer.old ≤ W.refusals writer.new }
     ensures same_borrow { W.borrow writer.new ≡ W.borrow writer.old }
 {

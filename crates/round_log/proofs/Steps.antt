@@ -1,5 +1,6 @@
 -- The two steps of a round keep the book's rule.
-use Rattle.std.proofs.Common.{◌≡◌, ℕ, zero, suc, ◌+◌, ◌*◌, ◌<◌, ◌==◌, Bool, true, false, List, [], ◌∷◌, ◌++◌, length, slice_set, slice_index_or, refl, ap, sym, ◌∙◌, subst, arith, inl, length-append, Option}
+use Rattle.std.proofs.Common.{◌≡◌, ℕ, zero, suc, ◌+◌, ◌*◌, ◌<◌, ◌==◌, Bool, true, false, List, [], ◌∷◌, ◌++◌, length, slice_set, slice_index_or, refl, ap, sym}
+use Rattle.std.proofs.Common.{◌∙◌, subst, arith, inl, length-append, Option}
 use Rattle.std.proofs.lemmas.List.{append-nil}
 use Rattle.std.proofs.lemmas.Bool.Decides.{nat_tests}
 use mathlib.Core.List.{IsPrefix}
@@ -37,9 +38,11 @@ cells_gives : (c : ℕ) → slice_set (cells_of c true) (suc c) (0, true) ≡ ce
 cells_gives zero = refl
 cells_gives (suc c) = ap (λ (z : List Cell). (0, true) ∷ z) (cells_gives c)
 
-begins_goes : {E : Type 0} (log v : List E) (e : E) (s : Option ℕ) (old r c : ℕ) (away : Bool) → length v ≡ old → old ≡ 2 * r → IsPrefix v log → length log ≡ 2 * c + bit away
+begins_goes : {E : Type 0} (log v : List E) (e : E) (s : Option ℕ) (old r c : ℕ) (away : Bool) → length v ≡ old → old ≡ 2 * r → IsPrefix v log
+    → length log ≡ 2 * c + bit away
     → (b : Bool) → (length log == old) ≡ b
-    → Goes IsKept shown moved 0 (v, (no_nib, s)) (λ n. either (n == old) (old + 1) n) (Begins (step 0 old (old + 1) e) (v, (no_nib, s))) ((length log, true) ∷ cells_of c away) log
+    → Goes IsKept shown moved 0 (v, (no_nib, s)) (λ n. either (n == old) (old + 1) n) (Begins (step 0 old (old + 1) e) (v, (no_nib, s)))
+    ((length log, true) ∷ cells_of c away) log
 begins_goes log v e s old r c true len even pre count true is =
     let here : length log ≡ old = grind (arith, nat_tests) in absurd (omega (arith, here, even, count))
 begins_goes log v e s old r c false len even pre count true is =
@@ -76,11 +79,13 @@ begins_goes log v e s old r c away len even pre count false is =
 pub begins_moves : {E : Type 0} (v : List E) (e : E) (s : Option ℕ) (old r : ℕ) → length v ≡ old → old ≡ 2 * r
     → Moves IsKept shown moved 0 (v, (no_nib, s)) (λ n. either (n == old) (old + 1) n) (Begins (step 0 old (old + 1) e) (v, (no_nib, s)))
 begins_moves v e s old r len even cs log kept pre away =
-    let P : List Cell → Type 0 = λ c. (0 < length c) × ((cell c 0).1 ≡ true) × Goes IsKept shown moved 0 (v, (no_nib, s)) (λ n. either (n == old) (old + 1) n) (Begins (step 0 old (old + 1) e) (v, (no_nib, s))) c log in
+    let P : List Cell → Type 0 = λ c. (0 < length c) × ((cell c 0).1 ≡ true)
+    × Goes IsKept shown moved 0 (v, (no_nib, s)) (λ n. either (n == old) (old + 1) n) (Begins (step 0 old (old + 1) e) (v, (no_nib, s))) c log in
     subst P (sym kept.cells_are) (omega arith, refl, begins_goes log v e s old r kept.rounds kept.away len even pre kept.count (length log == old) refl)
 
 ends_goes : {E : Type 0} (log v : List E) (e : E) (s : Option ℕ) (old r : ℕ) → v ≡ log → length log ≡ old → old ≡ 2 * r + 1 → (length log == old) ≡ true
-    → Goes IsKept shown moved 0 (v, (nib may_write (suc (suc r)) 0, s)) (λ n. either (n == old) (old + 1) n) (Adds (step 0 old (old + 1) e) (v, (nib may_write (suc (suc r)) 0, s))) ((length log, true) ∷ cells_of r true) log
+    → Goes IsKept shown moved 0 (v, (nib may_write (suc (suc r)) 0, s)) (λ n. either (n == old) (old + 1) n)
+    (Adds (step 0 old (old + 1) e) (v, (nib may_write (suc (suc r)) 0, s))) ((length log, true) ∷ cells_of r true) log
 ends_goes log v e s old r same len odd is =
     let n : either (length log == old) (old + 1) (length log) ≡ length (log ++ e ∷ []) = rw is (omega (arith, length-append log (e ∷ []))) in (
       gives,
@@ -99,12 +104,16 @@ ends_goes log v e s old r same len odd is =
 
 -- with the pen of the round, nothing was added to the log since, and the step ends the round
 pub ends_moves : {E : Type 0} (v : List E) (e : E) (s : Option ℕ) (old r : ℕ) → length v ≡ old → old ≡ 2 * r + 1
-    → Moves IsKept shown moved 0 (v, (nib may_write (r + 2) 0, s)) (λ n. either (n == old) (old + 1) n) (Adds (step 0 old (old + 1) e) (v, (nib may_write (r + 2) 0, s)))
+    → Moves IsKept shown moved 0 (v, (nib may_write (r + 2) 0, s)) (λ n. either (n == old) (old + 1) n)
+    (Adds (step 0 old (old + 1) e) (v, (nib may_write (r + 2) 0, s)))
 ends_moves v e s old r len odd =
     let key : r + 2 ≡ suc (suc r) = omega arith in
-    let Q : ℕ → Type 0 = λ k. Moves IsKept shown moved 0 (v, (nib may_write k 0, s)) (λ n. either (n == old) (old + 1) n) (Adds (step 0 old (old + 1) e) (v, (nib may_write k 0, s))) in
+    let Q : ℕ → Type 0 = λ k. Moves IsKept shown moved 0 (v, (nib may_write k 0, s)) (λ n. either (n == old) (old + 1) n)
+    (Adds (step 0 old (old + 1) e) (v, (nib may_write k 0, s))) in
     subst Q (sym key) (λ cs log kept pre away.
-    let P : List Cell → Type 0 = λ c. (0 < length c) × ((cell c 0).1 ≡ true) × Goes IsKept shown moved 0 (v, (nib may_write (suc (suc r)) 0, s)) (λ n. either (n == old) (old + 1) n) (Adds (step 0 old (old + 1) e) (v, (nib may_write (suc (suc r)) 0, s))) c log in
+    let P : List Cell → Type 0 = λ c. (0 < length c) × ((cell c 0).1 ≡ true)
+    × Goes IsKept shown moved 0 (v, (nib may_write (suc (suc r)) 0, s)) (λ n. either (n == old) (old + 1) n)
+    (Adds (step 0 old (old + 1) e) (v, (nib may_write (suc (suc r)) 0, s))) c log in
     let R : List Cell → Type 0 = λ c. Away (nib may_write (suc (suc r)) 0) c in
     let out = subst R kept.cells_are away refl in
     let last = cells_away kept.rounds (suc r) kept.away (omega (arith, out.0)) out.1 in

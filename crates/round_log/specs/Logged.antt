@@ -12,4 +12,5 @@ abbrev pub logged : {E : Type 0} → Book → List E → Logged E
 logged book entries = record { book = book; entries = entries }
 
 abbrev pub logged_code : {E : Type 0} → Coded E → Coded (Logged E)
-logged_code {E} code = coded_via (coded× book_coded (coded_list code)) (λ (l : Logged E). (l.book, l.entries)) (λ x y e i. record { book = (e i).0; entries = (e i).1 })
+logged_code {E} code = coded_via (coded× book_coded (coded_list code)) (λ (l : Logged E). (l.book, l.entries))
+    (λ x y e i. record { book = (e i).0; entries = (e i).1 })

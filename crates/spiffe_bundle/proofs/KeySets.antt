@@ -1,5 +1,6 @@
 -- What holds of a value holds of the keys in it.
-use Rattle.std.proofs.Common.{◌⊎◌, inl, inr, ◌≡◌, ◌≤◌, ℕ, ◌+◌, Bool, false, ◌||◌, List, Option, Some, None, Ok, option_and_then, codes, Ordering, Less, Equal, Greater, ap, arith}
+use Rattle.std.proofs.Common.{◌⊎◌, inl, inr, ◌≡◌, ◌≤◌, ℕ, ◌+◌, Bool, false, ◌||◌, List, Option, Some, None, Ok, option_and_then, codes, Ordering, Less, Equal}
+use Rattle.std.proofs.Common.{Greater, ap, arith}
 use Rattle.std.specs.Ordering.{match_ordering, nat_cmp}
 use Rattle.std.specs.Cmp.Lexicographic.{slice_cmp}
 use Rattle.serde_json.specs.Data.{Data, array, object, Items, Members, no_members, member, depth, items_depth, members_depth}
@@ -25,7 +26,8 @@ member_whole k (member l d ms) e is whole =
 member_nests : (k : List ℕ) (ms : Members) (e : Data) → get_member k ms ≡ Some e → depth e ≤ members_depth ms
 member_nests k no_members e is = cc
 member_nests k (member l d ms) e is =
-    elim (found (slice_cmp nat_cmp k l) (get_member k ms) d e is) [ inl same ↦ rw (← same) (omega arith) | inr later ↦ omega (arith, member_nests k ms e later) ]
+    elim (found (slice_cmp nat_cmp k l) (get_member k ms) d e is)
+    [ inl same ↦ rw (← same) (omega arith) | inr later ↦ omega (arith, member_nests k ms e later) ]
 
 the_array : (d : Data) (items : Items) → as_array d ≡ Some items → d ≡ array items
 the_array (array ds) items e = cc

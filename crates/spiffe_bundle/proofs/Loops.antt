@@ -16,13 +16,15 @@ one_more found a (Ok others) = refl
 one_more found a (Err e) = refl
 
 -- a copy of a map, entry by entry: what is copied and what is left make the whole
-pub copied_more : {V : Type 0} (all copied new rest : Entries V) (k : List ℕ) (v : V) → IsAscending all → copied ++ (k, v) ∷ rest ≡ all → new ≡ with_entry copied k v → new ++ rest ≡ all
+pub copied_more : {V : Type 0} (all copied new rest : Entries V) (k : List ℕ) (v : V) → IsAscending all → copied ++ (k, v) ∷ rest ≡ all
+    → new ≡ with_entry copied k v → new ++ rest ≡ all
 copied_more all copied new rest k v ascending so_far is =
     let whole : IsAscending (copied ++ (k, v) ∷ rest) = rw so_far ascending in
     rw (is, goes_last copied rest k v whole, append_assoc) so_far
 
 -- the same, where each value stands at the text that it bears
-pub copied_named : {V : Type 0} (name : V → List ℕ) (all copied new rest : Entries V) (k : List ℕ) (v : V) → IsAscending all → AreNamed name all → copied ++ (k, v) ∷ rest ≡ all → new ≡ with_entry copied (name v) v → new ++ rest ≡ all
+pub copied_named : {V : Type 0} (name : V → List ℕ) (all copied new rest : Entries V) (k : List ℕ) (v : V) → IsAscending all → AreNamed name all
+    → copied ++ (k, v) ∷ rest ≡ all → new ≡ with_entry copied (name v) v → new ++ rest ≡ all
 copied_named name all copied new rest k v ascending named so_far is =
     let whole : AreNamed name (copied ++ (k, v) ∷ rest) = rw so_far named in
     let here : k ≡ name v = named_among name copied rest k v whole in
@@ -33,7 +35,8 @@ taken [] rest = refl
 taken (b ∷ done) rest = ap (λ bs. b ∷ bs) (taken done rest)
 
 -- where the bundle after those that are done is refused
-pub partly_extended : (r : Result (Unit {0}) JwtBundleError) (old new : Bundles) (all done rest : List Bundle) (b : Bundle) → all ≡ done ++ b ∷ rest → new ≡ with_bundles old done → OnErr r (IsPartlyExtended old all new)
+pub partly_extended : (r : Result (Unit {0}) JwtBundleError) (old new : Bundles) (all done rest : List Bundle) (b : Bundle) → all ≡ done ++ b ∷ rest
+    → new ≡ with_bundles old done → OnErr r (IsPartlyExtended old all new)
 partly_extended (Ok u) old new all done rest b is so_far = tt
 partly_extended (Err e) old new all done rest b is so_far = (
   length done,

@@ -1,5 +1,6 @@
 -- A map from texts at a text, after an entry went in.
-use Rattle.std.proofs.Common.{◌≡◌, ℕ, List, [], ◌∷◌, ◌++◌, Option, Some, IfSome, Bool, true, false, cond, nat_cmp, is_eq, bytes_eq, Ordering, Less, Equal, Greater, refl, sym, ap, ◌∙◌}
+use Rattle.std.proofs.Common.{◌≡◌, ℕ, List, [], ◌∷◌, ◌++◌, Option, Some, IfSome, Bool, true, false, cond, nat_cmp, is_eq, bytes_eq, Ordering, Less, Equal}
+use Rattle.std.proofs.Common.{Greater, refl, sym, ap, ◌∙◌}
 use Rattle.std.proofs.lemmas.Cmp.{nat_list_cmp_total, tied_itself}
 use Rattle.std.proofs.lemmas.Map.Text.{is_eq-slice_cmp}
 use Rattle.std.proofs.lemmas.Slice.Eq.{bytes_eq-Decides}
@@ -29,7 +30,8 @@ above : (xs ys : List ℕ) → slice_cmp nat_cmp ys xs ≡ Less → slice_cmp na
 above xs ys below = nat_list_cmp_total.antisymm xs ys ∙ ap ordering_reverse below
 
 module _ {V : Type 0} where
-  at_same : (o : Ordering) (k l : List ℕ) (v w : V) (es : Entries V) → slice_cmp nat_cmp k l ≡ o → lookup (is_at (slice_cmp nat_cmp k)) (insert_entry (slice_cmp nat_cmp) es k v) ≡ Some v
+  at_same : (o : Ordering) (k l : List ℕ) (v w : V) (es : Entries V) → slice_cmp nat_cmp k l ≡ o
+      → lookup (is_at (slice_cmp nat_cmp k)) (insert_entry (slice_cmp nat_cmp) es k v) ≡ Some v
       → lookup (is_at (slice_cmp nat_cmp k)) (match_ordering o ((k, v) ∷ (l, w) ∷ es) ((l, v) ∷ es) ((l, w) ∷ insert_entry (slice_cmp nat_cmp) es k v)) ≡ Some v
   at_same Less k l v w es is later = rw same_text
   at_same Equal k l v w es is later = rw is
@@ -42,7 +44,8 @@ module _ {V : Type 0} where
 
   at_other : (o : Ordering) (q k l : List ℕ) (v w : V) (es : Entries V) → slice_cmp nat_cmp k l ≡ o → (q ≡ k → ⊥)
       → lookup (is_at (slice_cmp nat_cmp q)) (insert_entry (slice_cmp nat_cmp) es k v) ≡ lookup (is_at (slice_cmp nat_cmp q)) es
-      → lookup (is_at (slice_cmp nat_cmp q)) (match_ordering o ((k, v) ∷ (l, w) ∷ es) ((l, v) ∷ es) ((l, w) ∷ insert_entry (slice_cmp nat_cmp) es k v)) ≡ lookup (is_at (slice_cmp nat_cmp q)) ((l, w) ∷ es)
+      → lookup (is_at (slice_cmp nat_cmp q)) (match_ordering o ((k, v) ∷ (l, w) ∷ es) ((l, v) ∷ es) ((l, w) ∷ insert_entry (slice_cmp nat_cmp) es k v))
+      ≡ lookup (is_at (slice_cmp nat_cmp q)) ((l, w) ∷ es)
   at_other Less q k l v w es is other later = rw (apart q k other)
   at_other Equal q k l v w es is other later =
       let same : k ≡ l = tied k l (ap is_eq is) in
@@ -66,7 +69,8 @@ module _ {V : Type 0} where
 
   -- values that stand at the texts they bear
   module _ (name : V → List ℕ) where
-    named_step : (o : Ordering) (k l : List ℕ) (v w : V) (es : Entries V) → slice_cmp nat_cmp k l ≡ o → k ≡ name v → l ≡ name w → AreNamed name es → AreNamed name (insert_entry (slice_cmp nat_cmp) es k v)
+    named_step : (o : Ordering) (k l : List ℕ) (v w : V) (es : Entries V) → slice_cmp nat_cmp k l ≡ o → k ≡ name v → l ≡ name w → AreNamed name es
+        → AreNamed name (insert_entry (slice_cmp nat_cmp) es k v)
         → AreNamed name (match_ordering o ((k, v) ∷ (l, w) ∷ es) ((l, v) ∷ es) ((l, w) ∷ insert_entry (slice_cmp nat_cmp) es k v))
     named_step Less k l v w es is here there rest later = (here, (there, rest))
     named_step Equal k l v w es is here there rest later = (sym (tied k l (ap is_eq is)) ∙ here, rest)
@@ -76,7 +80,8 @@ module _ {V : Type 0} where
     named_with k v [] here h = (here, tt)
     named_with k v (e ∷ es) here h = named_step _ k e.0 v e.1 es refl here h.0 h.1 (named_with k v es here h.1)
 
-    named_or : (b : Bool) (q l : List ℕ) (w : V) (found : Option V) → is_eq (slice_cmp nat_cmp q l) ≡ b → l ≡ name w → IfSome found (λ v. name v ≡ q) → IfSome (cond b (Some w) found) (λ v. name v ≡ q)
+    named_or : (b : Bool) (q l : List ℕ) (w : V) (found : Option V) → is_eq (slice_cmp nat_cmp q l) ≡ b → l ≡ name w → IfSome found (λ v. name v ≡ q)
+        → IfSome (cond b (Some w) found) (λ v. name v ≡ q)
     named_or true q l w found e there later = sym there ∙ sym (tied q l e)
     named_or false q l w found e there later = later
 

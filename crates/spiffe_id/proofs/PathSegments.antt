@@ -1,5 +1,6 @@
 -- One step of the check of segments.
-use Rattle.std.proofs.Common.{Option, slice_index, ◌-◌, Ok, Err, Result, ◌≡◌, ◌<◌, ◌+◌, ℕ, true, false, cond, ◌≤◌, List, [], ◌∷◌, length, take, drop, Some, None, refl, sym, arith}
+use Rattle.std.proofs.Common.{Option, slice_index, ◌-◌, Ok, Err, Result, ◌≡◌, ◌<◌, ◌+◌, ℕ, true, false, cond, ◌≤◌, List, [], ◌∷◌, length, take, drop, Some}
+use Rattle.std.proofs.Common.{None, refl, sym, arith}
 use Rattle.std.specs.Str.{IsCharBoundary}
 use Rattle.std.specs.List.{slice_split, position, position_or_len, onto_first, before_first}
 use Rattle.std.proofs.lemmas.List.Splits.{slice_split_first, slice_split_none}
@@ -21,7 +22,8 @@ part_onto x (part ∷ parts) = (x ∷ part, parts, refl)
 
 part_of : (bs : List ℕ) → (s : List ℕ) × (more : List (List ℕ)) × (slice_split is_slash bs ≡ s ∷ more)
 part_of [] = ([], [], refl)
-part_of (b ∷ bs) = elim (is_slash b) as (λ v. (s : List ℕ) × (more : List (List ℕ)) × (cond v ([] ∷ slice_split is_slash bs) (onto_first b (slice_split is_slash bs)) ≡ s ∷ more))
+part_of (b ∷ bs) = elim (is_slash b) as (λ v. (s : List ℕ) × (more : List (List ℕ))
+    × (cond v ([] ∷ slice_split is_slash bs) (onto_first b (slice_split is_slash bs)) ≡ s ∷ more))
     [ true ↦ ([], slice_split is_slash bs, refl) | false ↦ part_onto b (slice_split is_slash bs) ]
 
 pub found_at : (bs : List ℕ) (i : ℕ) → position is_slash bs ≡ Some i → (position_or_len is_slash bs ≡ i) × (i < length bs)
@@ -30,10 +32,13 @@ found_at bs i e = (grind (arith, nat_tests), grind (arith, nat_tests))
 none_before : (bs : List ℕ) → position is_slash bs ≡ None → length bs ≤ position_or_len is_slash bs
 none_before bs e = grind (arith, nat_tests)
 
-pub step : (s rest : List ℕ) → path_segments_check (s ∷ slice_split is_slash rest) ≡ then_ok (segment_check EmptySegment s) (λ _. path_segments_check (slice_split is_slash rest))
+pub step : (s rest : List ℕ) → path_segments_check (s ∷ slice_split is_slash rest)
+    ≡ then_ok (segment_check EmptySegment s) (λ _. path_segments_check (slice_split is_slash rest))
 step s rest = let t = part_of rest in rw t.2 refl
 
-pub segments_at : (bs : List ℕ) (i : ℕ) → position is_slash bs ≡ Some i → path_segments_check (slice_split is_slash bs) ≡ then_ok (segment_check EmptySegment (take i bs)) (λ _. path_segments_check (slice_split is_slash (drop (i + 1) bs)))
+pub segments_at : (bs : List ℕ) (i : ℕ) → position is_slash bs ≡ Some i
+    → path_segments_check (slice_split is_slash bs) ≡ then_ok (segment_check EmptySegment (take i bs))
+    (λ _. path_segments_check (slice_split is_slash (drop (i + 1) bs)))
 segments_at bs i e =
     let f = found_at bs i e in
     let within : position_or_len is_slash bs < length bs = omega arith in
@@ -47,15 +52,19 @@ segments_last bs e =
 rest_of : (bs : List ℕ) (n : ℕ) → take (length bs - n) (drop n bs) ≡ drop n bs
 rest_of bs n = grind (arith, common_steps)
 
-pub goes_on : (all rest : List ℕ) (i : ℕ) (u : Unit {0}) → path_segments_check (slice_split is_slash all) ≡ path_segments_check (slice_split is_slash rest) → Some i ≡ position is_slash rest → Ok u ≡ segment_check EmptySegment (take i rest)
+pub goes_on : (all rest : List ℕ) (i : ℕ) (u : Unit {0}) → path_segments_check (slice_split is_slash all) ≡ path_segments_check (slice_split is_slash rest)
+    → Some i ≡ position is_slash rest → Ok u ≡ segment_check EmptySegment (take i rest)
     → path_segments_check (slice_split is_slash all) ≡ path_segments_check (slice_split is_slash (take (length rest - (i + 1)) (drop (i + 1) rest)))
 goes_on all rest i u same at ok = rw (rest_of rest (i + 1), same, segments_at rest i (sym at), ← ok)
 
-pub stops : (all rest : List ℕ) (i : ℕ) (e : SpiffeIdError) → path_segments_check (slice_split is_slash all) ≡ path_segments_check (slice_split is_slash rest) → Some i ≡ position is_slash rest → Err e ≡ segment_check EmptySegment (take i rest)
+pub stops : (all rest : List ℕ) (i : ℕ) (e : SpiffeIdError) → path_segments_check (slice_split is_slash all)
+    ≡ path_segments_check (slice_split is_slash rest) → Some i ≡ position is_slash rest → Err e ≡ segment_check EmptySegment (take i rest)
     → Err e ≡ path_segments_check (slice_split is_slash all)
 stops all rest i e same at err = rw (same, segments_at rest i (sym at), ← err)
 
-pub ends : (all rest : List ℕ) (r : Result (Unit {0}) SpiffeIdError) → path_segments_check (slice_split is_slash all) ≡ path_segments_check (slice_split is_slash rest) → None ≡ position is_slash rest → r ≡ segment_check TrailingSlash rest
+pub ends : (all rest : List ℕ) (r : Result (Unit {0}) SpiffeIdError)
+    → path_segments_check (slice_split is_slash all) ≡ path_segments_check (slice_split is_slash rest) → None ≡ position is_slash rest
+    → r ≡ segment_check TrailingSlash rest
     → r ≡ path_segments_check (slice_split is_slash all)
 ends all rest r same at is = rw (same, segments_last rest (sym at), is)
 

@@ -1,5 +1,6 @@
 //! SPIFFE IDs and trust domains: text becomes a [`SpiffeId`] or a [`TrustDomain`] in canonical form, or
-//! the answer names the first rule of the SPIFFE-ID standard that it breaks. It ports a part of the crate `spiffe`, and is offered under the licence Apache-2.0.
+//! the answer names the first rule of the SPIFFE-ID standard that it breaks. It ports a part of the crate `spiffe`, and
+//! is offered under the licence Apache-2.0.
 //!
 //! ```text
 //! let id = SpiffeId::new(alloc, "spiffe://Example.org/backend")?;

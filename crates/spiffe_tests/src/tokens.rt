@@ -11,7 +11,8 @@ const CLAIMS: &str =
     "{\"aud\":[\"a\"],\"exp\":1700000000,\"iat\":1600000000,\"sub\":\"spiffe://example.org/a\"}";
 
 const TOKEN: &str =
-    "eyJhbGciOiJFUzI1NiIsImtpZCI6ImsxIiwidHlwIjoiSldUIn0.eyJhdWQiOlsiYSJdLCJleHAiOjE3MDAwMDAwMDAsImlhdCI6MTYwMDAwMDAwMCwic3ViIjoic3BpZmZlOi8vZXhhbXBsZS5vcmcvYSJ9.c2ln";
+    "eyJhbGciOiJFUzI1NiIsImtpZCI6ImsxIiwidHlwIjoiSldUIn0.eyJhdWQiOlsiYSJdLCJleHAiOjE3MDAwMDAwMDAsImlhdCI6MTYwMDAwMDAwMCwic3ViIjoic3BpZmZlOi8\
+         vZXhhbXBsZS5vcmcvYSJ9.c2ln";
 
 // Made by openssl: the header {"typ":"JOSE","kid":"authority-7","alg":"RS256"} and the claims
 // {"sub":"spiffe://Domain.test/Web/api","aud":["spiffe://peer.test/db","other"],"exp":1893456000,"iat":1893452400} each by
@@ -23,7 +24,8 @@ yrSwhgBDPrwMpXZprZq-yUteUnrIc9XKSFS5ZZlNuRSabyC6VCkuz7byr0OXriYhSAAK-GDQnAlC8OaZ
 TmyQi6ZmDxm-2qq1rDgvXWwpHZZCmVwE197_ZWj7CWDZmhklfv3wYC_seib0w4ySzbd0H5f2JpEd8O8V1-JzG-Ib0pYssEY9ewpGVhyfcdnw";
 
 const PARTS: &str =
-    "{\"alg\":\"ES256\",\"kid\":\"k1\",\"typ\":\"JWT\"} = {\"aud\":[\"a\"],\"exp\":1700000000,\"sub\":\"spiffe://example.org/a\"} = k1 spiffe://example.org/a a; 1700000000 ES256
+    "{\"alg\":\"ES256\",\"kid\":\"k1\",\"typ\":\"JWT\"} = {\"aud\":[\"a\"],\"exp\":1700000000,\"sub\":\"spiffe://example.org/a\"} = k1 spiff\
+    e://example.org/a a; 1700000000 ES256
 { = {\"aud\":[\"a\"],\"exp\":1700000000,\"sub\":\"spiffe://example.org/a\"} = InvalidJson(Syntax)
 { = { = InvalidJson(Syntax)
 {\"alg\":\"ES256\",\"kid\":\"k1\",\"n\":[1.5]} = {\"aud\":[\"a\"],\"exp\":1700000000,\"sub\":\"spiffe://example.org/a\"} = InvalidJson(Number)
@@ -48,19 +50,27 @@ const PARTS: &str =
 {\"alg\":\"ES256\",\"kid\":\"k1\",\"typ\":\"JWT\"} = {\"sub\":\"spiffe://example.org/a\",\"aud\":\"a\",\"exp\":253402300800} = InvalidExpiration
 {\"alg\":\"ES256\",\"kid\":\"k1\",\"typ\":\"JWT\"} = {\"sub\":\"spiffe://example.org/a\",\"aud\":\"a\",\"exp\":-377705116801} = InvalidExpiration
 {\"alg\":\"ES256\",\"kid\":\"k1\",\"typ\":\"JWT\"} = {\"sub\":\"spiffe://example.org/a\",\"aud\":\"a\",\"exp\":-9223372036854775808} = InvalidExpiration
-{\"alg\":\"ES256\",\"kid\":\"k1\",\"typ\":\"JWT\"} = {\"sub\":\"spiffe://example.org/a\",\"aud\":\"a\",\"exp\":253402300799} = k1 spiffe://example.org/a a; 253402300799 ES256
-{\"alg\":\"ES256\",\"kid\":\"k1\",\"typ\":\"JWT\"} = {\"sub\":\"spiffe://Example.org\",\"aud\":[\"b\",\"a\",\"b\"],\"exp\":-377705116800} = k1 spiffe://example.org b;a;b; -377705116800 ES256
-{\"typ\":\"JOSE\",\"kid\":\"\",\"alg\":\"PS512\",\"crit\":[]} = {\"aud\":[\"a\"],\"exp\":1700000000,\"sub\":\"spiffe://example.org/a\"} =  spiffe://example.org/a a; 1700000000 PS512
-{\"kid\":\"\\u006b1\",\"\\u0061lg\":\"ES256\",\"typ\":null} = {\"aud\":[\"a\"],\"exp\":1700000000,\"sub\":\"spiffe://example.org/a\"} = k1 spiffe://example.org/a a; 1700000000 ES256
+{\"alg\":\"ES256\",\"kid\":\"k1\",\"typ\":\"JWT\"} = {\"sub\":\"spiffe://example.org/a\",\"aud\":\"a\",\"exp\":253402300799} = k1 spiffe://e\
+    xample.org/a a; 253402300799 ES256
+{\"alg\":\"ES256\",\"kid\":\"k1\",\"typ\":\"JWT\"} = {\"sub\":\"spiffe://Example.org\",\"aud\":[\"b\",\"a\",\"b\"],\"exp\":-377705116800} = \
+    k1 spiffe://example.org b;a;b; -377705116800 ES256
+{\"typ\":\"JOSE\",\"kid\":\"\",\"alg\":\"PS512\",\"crit\":[]} = {\"aud\":[\"a\"],\"exp\":1700000000,\"sub\":\"spiffe://example.org/a\"} =  s\
+    piffe://example.org/a a; 1700000000 PS512
+{\"kid\":\"\\u006b1\",\"\\u0061lg\":\"ES256\",\"typ\":null} = {\"aud\":[\"a\"],\"exp\":1700000000,\"sub\":\"spiffe://example.org/a\"} = k1 s\
+    piffe://example.org/a a; 1700000000 ES256
 [\"ES256\",\"k1\",\"JWT\"] = {\"aud\":[\"a\"],\"exp\":1700000000,\"sub\":\"spiffe://example.org/a\"} = InvalidJson(Shape)
 {\"alg\":\"ES256\",\"kid\":7} = {\"aud\":[\"a\"],\"exp\":1700000000,\"sub\":\"spiffe://example.org/a\"} = InvalidJson(Shape)
 {\"alg\":\"ES256\",\"kid\":\"k1\",\"typ\":[]} = {\"aud\":[\"a\"],\"exp\":1700000000,\"sub\":\"spiffe://example.org/a\"} = InvalidJson(Shape)
 {\"alg\":\"ES256\",\"kid\":\"k1\",\"alg\":\"ES256\"} = {\"aud\":[\"a\"],\"exp\":1700000000,\"sub\":\"spiffe://example.org/a\"} = InvalidJson(Shape)
 {\"alg\":\"ES256\",\"kid\":\"k1\",\"\\u006Bid\":\"k1\"} = {\"aud\":[\"a\"],\"exp\":1700000000,\"sub\":\"spiffe://example.org/a\"} = InvalidJson(Shape)
-{\"alg\":\"ES256\",\"kid\":\"k1\",\"x\":{\"alg\":1,\"alg\":2},\"y\":1,\"y\":2} = {\"aud\":[\"a\"],\"exp\":1700000000,\"sub\":\"spiffe://example.org/a\"} = k1 spiffe://example.org/a a; 1700000000 ES256
-{\"alg\":\"ES256\",\"kid\":\"k1\",\"typ\":\"JWT\"} = {\"sub\":\"spiffe://example.org/a\",\"aud\":\"a\",\"exp\":1,\"sub\":\"spiffe://example.org/a\"} = InvalidJson(Shape)
-{\"alg\":\"ES256\",\"kid\":\"k1\",\"typ\":\"JWT\"} = {\"sub\":\"spiffe://example.org/a\",\"aud\":\"a\",\"exp\":1,\"s\\u0075b\":\"spiffe://example.org/a\"} = InvalidJson(Shape)
-{\"alg\":\"ES256\",\"kid\":\"k1\",\"typ\":\"JWT\"} = {\"sub\":\"spiffe://example.org/a\",\"aud\":\"a\",\"exp\":1,\"iat\":1,\"iat\":2} = k1 spiffe://example.org/a a; 1 ES256
+{\"alg\":\"ES256\",\"kid\":\"k1\",\"x\":{\"alg\":1,\"alg\":2},\"y\":1,\"y\":2} = {\"aud\":[\"a\"],\"exp\":1700000000,\"sub\":\"spiffe://exam\
+    ple.org/a\"} = k1 spiffe://example.org/a a; 1700000000 ES256
+{\"alg\":\"ES256\",\"kid\":\"k1\",\"typ\":\"JWT\"} = {\"sub\":\"spiffe://example.org/a\",\"aud\":\"a\",\"exp\":1,\"sub\":\"spiffe://example.\
+    org/a\"} = InvalidJson(Shape)
+{\"alg\":\"ES256\",\"kid\":\"k1\",\"typ\":\"JWT\"} = {\"sub\":\"spiffe://example.org/a\",\"aud\":\"a\",\"exp\":1,\"s\\u0075b\":\"spiffe://ex\
+    ample.org/a\"} = InvalidJson(Shape)
+{\"alg\":\"ES256\",\"kid\":\"k1\",\"typ\":\"JWT\"} = {\"sub\":\"spiffe://example.org/a\",\"aud\":\"a\",\"exp\":1,\"iat\":1,\"iat\":2} = k1 s\
+    piffe://example.org/a a; 1 ES256
 {\"alg\":\"ES256\",\"kid\":\"k1\",\"typ\":\"JWT\"} = {\"sub\":\"spiffe://example.org/a\",\"aud\":\"a\",\"exp\":\"1\"} = InvalidJson(Shape)
 {\"alg\":\"ES256\",\"kid\":\"k1\",\"typ\":\"JWT\"} = {\"sub\":\"spiffe://example.org/a\",\"aud\":\"a\",\"exp\":9223372036854775808} = InvalidJson(Shape)
 {\"alg\":\"ES256\",\"kid\":\"k1\",\"typ\":\"JWT\"} = {\"sub\":\"spiffe://example.org/a\",\"aud\":\"a\"} = InvalidJson(Shape)
@@ -70,27 +80,40 @@ const PARTS: &str =
 {\"alg\":\"ES256\",\"kid\":\"k1\",\"typ\":\"JWT\"} = {\"sub\":null,\"aud\":\"a\",\"exp\":1} = InvalidJson(Shape)";
 
 const TOKENS: &str =
-    "eyJhbGciOiJFUzI1NiIsImtpZCI6ImsxIiwidHlwIjoiSldUIn0.eyJhdWQiOlsiYSJdLCJleHAiOjE3MDAwMDAwMDAsImlhdCI6MTYwMDAwMDAwMCwic3ViIjoic3BpZmZlOi8vZXhhbXBsZS5vcmcvYSJ9.c2ln = k1 spiffe://example.org/a a; 1700000000 ES256
-eyJhbGciOiJFUzI1NiIsImtpZCI6ImsxIiwidHlwIjoiSldUIn0.eyJhdWQiOlsiYSJdLCJleHAiOjE3MDAwMDAwMDAsInN1YiI6InNwaWZmZTovL2V4YW1wbGUub3JnL2EiLCJzdWIiOiJzcGlmZmU6Ly9leGFtcGxlLm9yZy9hIn0.c2ln = InvalidJson(Shape)
-eyJhbGciOiJFUzI1NiIsImtpZCI6ImsxIiwidHlwIjoiSldUIn0.eyJhdWQiOlsiYSJdLCJleHAiOjE3MDAwMDAwMDAsImlhdCI6MTYwMDAwMDAwMCwic3ViIjoic3BpZmZlOi8vZXhhbXBsZS5vcmcvYSJ9. = k1 spiffe://example.org/a a; 1700000000 ES256
-eyJhbGciOiJFUzI1NiIsImtpZCI6ImsxIiwidHlwIjoiSldUIn0.eyJhdWQiOlsiYSJdLCJleHAiOjE3MDAwMDAwMDAsImlhdCI6MTYwMDAwMDAwMCwic3ViIjoic3BpZmZlOi8vZXhhbXBsZS5vcmcvYSJ9.* = k1 spiffe://example.org/a a; 1700000000 ES256
+    "eyJhbGciOiJFUzI1NiIsImtpZCI6ImsxIiwidHlwIjoiSldUIn0.eyJhdWQiOlsiYSJdLCJleHAiOjE3MDAwMDAwMDAsImlhdCI6MTYwMDAwMDAwMCwic3ViIjoic3BpZmZlOi8\
+    vZXhhbXBsZS5vcmcvYSJ9.c2ln = k1 spiffe://example.org/a a; 1700000000 ES256
+eyJhbGciOiJFUzI1NiIsImtpZCI6ImsxIiwidHlwIjoiSldUIn0.eyJhdWQiOlsiYSJdLCJleHAiOjE3MDAwMDAwMDAsInN1YiI6InNwaWZmZTovL2V4YW1wbGUub3JnL2EiLCJzdWIi\
+    OiJzcGlmZmU6Ly9leGFtcGxlLm9yZy9hIn0.c2ln = InvalidJson(Shape)
+eyJhbGciOiJFUzI1NiIsImtpZCI6ImsxIiwidHlwIjoiSldUIn0.eyJhdWQiOlsiYSJdLCJleHAiOjE3MDAwMDAwMDAsImlhdCI6MTYwMDAwMDAwMCwic3ViIjoic3BpZmZlOi8vZXhh\
+    bXBsZS5vcmcvYSJ9. = k1 spiffe://example.org/a a; 1700000000 ES256
+eyJhbGciOiJFUzI1NiIsImtpZCI6ImsxIiwidHlwIjoiSldUIn0.eyJhdWQiOlsiYSJdLCJleHAiOjE3MDAwMDAwMDAsImlhdCI6MTYwMDAwMDAwMCwic3ViIjoic3BpZmZlOi8vZXhh\
+    bXBsZS5vcmcvYSJ9.* = k1 spiffe://example.org/a a; 1700000000 ES256
  = InvalidJwtFormat
 a.b = InvalidJwtFormat
 a.b.c.d = InvalidJwtFormat
 ... = InvalidJwtFormat
 .. = InvalidJson(Syntax)
-eyJhbGciOiJFUzI1NiIsImtpZCI6ImsxIiwidHlwIjoiSldUIn0.eyJhdWQiOlsiYSJdLCJleHAiOjE3MDAwMDAwMDAsImlhdCI6MTYwMDAwMDAwMCwic3ViIjoic3BpZmZlOi8vZXhhbXBsZS5vcmcvYSJ9.c2ln. = InvalidJwtFormat
-eyJhbGciOiJFUzI1NiIsImtpZCI6ImsxIiwidHlwIjoiSldUIn0=.eyJhdWQiOlsiYSJdLCJleHAiOjE3MDAwMDAwMDAsImlhdCI6MTYwMDAwMDAwMCwic3ViIjoic3BpZmZlOi8vZXhhbXBsZS5vcmcvYSJ9.c2ln = InvalidBase64
+eyJhbGciOiJFUzI1NiIsImtpZCI6ImsxIiwidHlwIjoiSldUIn0.eyJhdWQiOlsiYSJdLCJleHAiOjE3MDAwMDAwMDAsImlhdCI6MTYwMDAwMDAwMCwic3ViIjoic3BpZmZlOi8vZXhh\
+    bXBsZS5vcmcvYSJ9.c2ln. = InvalidJwtFormat
+eyJhbGciOiJFUzI1NiIsImtpZCI6ImsxIiwidHlwIjoiSldUIn0=.eyJhdWQiOlsiYSJdLCJleHAiOjE3MDAwMDAwMDAsImlhdCI6MTYwMDAwMDAwMCwic3ViIjoic3BpZmZlOi8vZXh\
+    hbXBsZS5vcmcvYSJ9.c2ln = InvalidBase64
 eyJhbGciOiJFUzI1NiIsImtpZCI6ImsxIiwidHlwIjoiSldUIn0.*.c2ln = InvalidBase64
 *.eyJhdWQiOlsiYSJdLCJleHAiOjE3MDAwMDAwMDAsInN1YiI6InNwaWZmZTovL2V4YW1wbGUub3JnL2EifQ. = InvalidBase64
 eyJhbGciOiJFUzI1NiIsImtpZCI6ImsxIn1.eyJhdWQiOlsiYSJdLCJleHAiOjE3MDAwMDAwMDAsInN1YiI6InNwaWZmZTovL2V4YW1wbGUub3JnL2EifQ. = InvalidBase64
-eyJhbGciOiJFUzI1NiIsImtpZCI6Iv8ifQ.eyJhdWQiOlsiYSJdLCJleHAiOjE3MDAwMDAwMDAsImlhdCI6MTYwMDAwMDAwMCwic3ViIjoic3BpZmZlOi8vZXhhbXBsZS5vcmcvYSJ9.c2ln = InvalidJson(Syntax)
-eyJhbGciOiJFUzI1NiIsImtpZCI6ImsxIiwidHlwIjoiSldUIn0.eyJhdWQiOlsi_yJdLCJleHAiOjE3MDAwMDAwMDAsInN1YiI6InNwaWZmZTovL2V4YW1wbGUub3JnL2EifQ.c2ln = InvalidJson(Syntax)
-eyJhbGciOiJFUzI1NiIsImtpZCI6ImsxIiwidHlwIjoiWCJ9.eyJhdWQiOlsiYSJdLCJleHAiOjE3MDAwMDAwMDAsImlhdCI6MTYwMDAwMDAwMCwic3ViIjoic3BpZmZlOi8vZXhhbXBsZS5vcmcvYSJ9.c2ln = InvalidTyp
-eyJhbGciOiJIUzI1NiIsImtpZCI6ImsxIiwidHlwIjoiSldUIn0.eyJhdWQiOlsiYSJdLCJleHAiOjE3MDAwMDAwMDAsImlhdCI6MTYwMDAwMDAwMCwic3ViIjoic3BpZmZlOi8vZXhhbXBsZS5vcmcvYSJ9.c2ln = UnsupportedAlgorithm
-eyJhbGciOiJFUzI1NiIsInR5cCI6IkpXVCJ9.eyJhdWQiOlsiYSJdLCJleHAiOjE3MDAwMDAwMDAsImlhdCI6MTYwMDAwMDAwMCwic3ViIjoic3BpZmZlOi8vZXhhbXBsZS5vcmcvYSJ9.c2ln = MissingKeyId
-eyJhbGciOiJFUzI1NiIsImtpZCI6ImsxIiwidHlwIjoiSldUIn0.eyJhdWQiOlsiYSJdLCJleHAiOjI1MzQwMjMwMDgwMCwiaWF0IjoxNjAwMDAwMDAwLCJzdWIiOiJzcGlmZmU6Ly9leGFtcGxlLm9yZy9hIn0.c2ln = InvalidExpiration
-eyJhbGciOiJFUzI1NiIsImtpZCI6ImsxIiwidHlwIjoiSldUIn0.eyJhdWQiOltdLCJleHAiOjE3MDAwMDAwMDAsImlhdCI6MTYwMDAwMDAwMCwic3ViIjoic3BpZmZlOi8vZXhhbXBsZS5vcmcvYSJ9.c2ln = InvalidJson(Shape)";
+eyJhbGciOiJFUzI1NiIsImtpZCI6Iv8ifQ.eyJhdWQiOlsiYSJdLCJleHAiOjE3MDAwMDAwMDAsImlhdCI6MTYwMDAwMDAwMCwic3ViIjoic3BpZmZlOi8vZXhhbXBsZS5vcmcvYSJ9.\
+    c2ln = InvalidJson(Syntax)
+eyJhbGciOiJFUzI1NiIsImtpZCI6ImsxIiwidHlwIjoiSldUIn0.eyJhdWQiOlsi_yJdLCJleHAiOjE3MDAwMDAwMDAsInN1YiI6InNwaWZmZTovL2V4YW1wbGUub3JnL2EifQ.c2ln \
+    = InvalidJson(Syntax)
+eyJhbGciOiJFUzI1NiIsImtpZCI6ImsxIiwidHlwIjoiWCJ9.eyJhdWQiOlsiYSJdLCJleHAiOjE3MDAwMDAwMDAsImlhdCI6MTYwMDAwMDAwMCwic3ViIjoic3BpZmZlOi8vZXhhbXB\
+    sZS5vcmcvYSJ9.c2ln = InvalidTyp
+eyJhbGciOiJIUzI1NiIsImtpZCI6ImsxIiwidHlwIjoiSldUIn0.eyJhdWQiOlsiYSJdLCJleHAiOjE3MDAwMDAwMDAsImlhdCI6MTYwMDAwMDAwMCwic3ViIjoic3BpZmZlOi8vZXhh\
+    bXBsZS5vcmcvYSJ9.c2ln = UnsupportedAlgorithm
+eyJhbGciOiJFUzI1NiIsInR5cCI6IkpXVCJ9.eyJhdWQiOlsiYSJdLCJleHAiOjE3MDAwMDAwMDAsImlhdCI6MTYwMDAwMDAwMCwic3ViIjoic3BpZmZlOi8vZXhhbXBsZS5vcmcvYSJ\
+    9.c2ln = MissingKeyId
+eyJhbGciOiJFUzI1NiIsImtpZCI6ImsxIiwidHlwIjoiSldUIn0.eyJhdWQiOlsiYSJdLCJleHAiOjI1MzQwMjMwMDgwMCwiaWF0IjoxNjAwMDAwMDAwLCJzdWIiOiJzcGlmZmU6Ly9l\
+    eGFtcGxlLm9yZy9hIn0.c2ln = InvalidExpiration
+eyJhbGciOiJFUzI1NiIsImtpZCI6ImsxIiwidHlwIjoiSldUIn0.eyJhdWQiOltdLCJleHAiOjE3MDAwMDAwMDAsImlhdCI6MTYwMDAwMDAwMCwic3ViIjoic3BpZmZlOi8vZXhhbXBs\
+    ZS5vcmcvYSJ9.c2ln = InvalidJson(Shape)";
 
 fn said(rt: &impl Abort, alloc: Global, answer: Result<JwtSvid, JwtSvidError>) -> String {
     match answer {

@@ -1,8 +1,10 @@
 -- One byte or escape of a name further.
-use Rattle.std.proofs.Common.{◌≡◌, ◌≤◌, ◌<◌, ℕ, zero, suc, List, [], ◌∷◌, ◌++◌, length, Option, Some, None, option_map, refl, sym, ap, arith, append_assoc, append-nil}
+use Rattle.std.proofs.Common.{◌≡◌, ◌≤◌, ◌<◌, ℕ, zero, suc, List, [], ◌∷◌, ◌++◌, length, Option, Some, None, option_map, refl, sym, ap, arith, append_assoc}
+use Rattle.std.proofs.Common.{append-nil}
 use Rattle.spiffe_token.specs.MemberNames.{unit, resolve}
 
-resolve_step : (n : ℕ) (bs u rest : List ℕ) → length bs ≤ n → unit bs ≡ Some (u, rest) → (k : ℕ) × (n ≡ suc k) × (resolve n bs ≡ option_map (λ r. u ++ r) (resolve k rest))
+resolve_step : (n : ℕ) (bs u rest : List ℕ) → length bs ≤ n → unit bs ≡ Some (u, rest) → (k : ℕ) × (n ≡ suc k)
+    × (resolve n bs ≡ option_map (λ r. u ++ r) (resolve k rest))
 unfolding resolve
 resolve_step n [] u rest h e = absurd (cc)
 resolve_step zero (b ∷ bs) u rest h e = absurd (omega arith)

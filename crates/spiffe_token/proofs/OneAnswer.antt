@@ -26,7 +26,8 @@ of_parts token a b p (inl h) (inl k) = h.1 ∙ sym k.1
 of_parts token a b p (inl h) (inr k) = absurd (neither p k.0 k.1 k.2 k.3 h.0)
 of_parts token a b p (inr h) (inl k) = absurd (neither p h.0 h.1 h.2 h.3 k.0)
 of_parts token a b p (inr h) (inr k) =
-    h.4 ∙ ap (λ header. svid_of token header h.1) (one_part p.header h.0 k.0 h.2 k.2) ∙ ap (λ claims. svid_of token k.0 claims) (one_part p.claims h.1 k.1 h.3 k.3) ∙ sym k.4
+    h.4 ∙ ap (λ header. svid_of token header h.1) (one_part p.header h.0 k.0 h.2 k.2)
+    ∙ ap (λ claims. svid_of token k.0 claims) (one_part p.claims h.1 k.1 h.3 k.3) ∙ sym k.4
 
 pub one_answer : (token : List ℕ) (a b : Result Svid JwtSvidError) (parts : Option Parts)
     → MatchOption parts (a ≡ Err InvalidJwtFormat) (AnswersParts token a) → MatchOption parts (b ≡ Err InvalidJwtFormat) (AnswersParts token b) → a ≡ b

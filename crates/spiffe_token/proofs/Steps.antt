@@ -31,7 +31,8 @@ one_further found m (Some ms) = ap Some (further found ms)
     further (x ∷ xs) ms = ap (λ rest. raw_of x ∷ rest) (further xs ms)
 
 module _ (n total : ℕ) (bs after : List ℕ) (found pushed : List RawMember) (m : RawMember) (all : Option (List Raw)) (small : length bs ≤ n)
-    (so_far : all ≡ option_map (λ ms. map raw_of found ++ ms) (members_from n total bs)) (is : Some (raw_of m, after) ≡ member_part total bs) (push : pushed ≡ found ++ m ∷ []) where
+    (so_far : all ≡ option_map (λ ms. map raw_of found ++ ms) (members_from n total bs)) (is : Some (raw_of m, after) ≡ member_part total bs)
+    (push : pushed ≡ found ++ m ∷ []) where
   pub went_on : (next : List ℕ) → another next ≡ what_follows after → length next < length after → length after < length bs → length bs ≤ total
       → (k : ℕ) × (length next ≤ k) × (length next ≤ total) × (all ≡ option_map (λ ms. map raw_of pushed ++ ms) (members_from k total next))
   went_on next follows shorter used within =

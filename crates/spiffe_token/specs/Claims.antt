@@ -1,5 +1,6 @@
 -- The claims of a token (RFC 7519, section 4.1; JWT-SVID, section 3).
-use Rattle.std.specs.Prelude.{ℕ, ℤ, pos, negsuc, int_le, nat_eq, nat_le, ◌&&◌, List, [], ◌∷◌, length, Bool, Result, Option, Some, None, option_map, option_and_then, codes, if◌then◌else◌}
+use Rattle.std.specs.Prelude.{ℕ, ℤ, pos, negsuc, int_le, nat_eq, nat_le, ◌&&◌, List, [], ◌∷◌, length, Bool, Result, Option, Some, None, option_map}
+use Rattle.std.specs.Prelude.{option_and_then, codes, if◌then◌else◌}
 use Rattle.std.specs.Ordering.{on, eq_of_both, int_eq}
 use Rattle.std.specs.Cmp.{IsEquivalence, and_equiv, on_equiv, int_eq_equiv}
 use Rattle.std.specs.Cmp.Lexicographic.{pointwise, nat_list_eq_equiv, lists_equiv}
@@ -34,7 +35,8 @@ audience_of (number n) = None
 audience_of (object ms) = None
 
 abbrev pub with_audience : Data → List ℕ → List (List ℕ) → Option ClaimsSet
-with_audience d sub aud = option_map (λ exp. record { sub = sub; aud = aud; exp = exp }) (option_and_then as_i64 (option_and_then as_number (get (codes "exp") d)))
+with_audience d sub aud = option_map (λ exp. record { sub = sub; aud = aud; exp = exp })
+    (option_and_then as_i64 (option_and_then as_number (get (codes "exp") d)))
 
 abbrev pub with_subject : Data → List ℕ → Option ClaimsSet
 with_subject d sub = option_and_then (with_audience d sub) (option_and_then audience_of (get (codes "aud") d))

@@ -1,5 +1,6 @@
 -- The header of a token (RFC 7515, section 4; JWT-SVID, section 2).
-use Rattle.std.specs.Prelude.{ℕ, nat_eq, nat_lt, ◌&&◌, ◌||◌, List, Bool, false, Result, Ok, Err, Option, Some, None, option_map, option_and_then, count_by, codes, if◌then◌else◌}
+use Rattle.std.specs.Prelude.{ℕ, nat_eq, nat_lt, ◌&&◌, ◌||◌, List, Bool, false, Result, Ok, Err, Option, Some, None, option_map, option_and_then, count_by}
+use Rattle.std.specs.Prelude.{codes, if◌then◌else◌}
 use Rattle.std.specs.Option.{ok_or}
 use Rattle.std.specs.Cmp.Lexicographic.{pointwise}
 use Rattle.serde_json.specs.Data.{Data, null, boolean, number, string, array, object}

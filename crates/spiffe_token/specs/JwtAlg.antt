@@ -23,7 +23,8 @@ alg_or alg others name = if pointwise nat_eq name (alg_name alg) then Some alg e
 -- the algorithm of that name
 unfoldable pub alg_of : List ℕ → Option JwtAlg
 alg_of name =
-    alg_or RS256 (alg_or RS384 (alg_or RS512 (alg_or ES256 (alg_or ES384 (alg_or ES512 (alg_or PS256 (alg_or PS384 (alg_or PS512 None name) name) name) name) name) name) name) name) name
+    alg_or RS256 (alg_or RS384 (alg_or RS512 (alg_or ES256 (alg_or ES384
+    (alg_or ES512 (alg_or PS256 (alg_or PS384 (alg_or PS512 None name) name) name) name) name) name) name) name) name
 
 abbrev pub alg_eq : JwtAlg → JwtAlg → Bool
 alg_eq = on alg_name (pointwise nat_eq)

@@ -67,7 +67,8 @@ id_equiv = and_equiv (on_equiv (λ i. i.trust_domain) nat_list_eq_equiv) (on_equ
 pub svid_equiv : IsEquivalence svid_eq
 svid_equiv =
     and_equiv (on_equiv (λ s. s.token) nat_list_eq_equiv) (and_equiv (on_equiv (λ s. s.spiffe_id) id_equiv) (and_equiv (on_equiv (λ s. s.claims) claims_equiv)
-    (and_equiv (on_equiv (λ s. s.key_id) nat_list_eq_equiv) (and_equiv (on_equiv (λ s. s.alg) alg_equiv) (on_equiv (λ s. s.hint) (options_equiv nat_list_eq_equiv))))))
+    (and_equiv (on_equiv (λ s. s.key_id) nat_list_eq_equiv) (and_equiv (on_equiv (λ s. s.alg) alg_equiv)
+    (on_equiv (λ s. s.hint) (options_equiv nat_list_eq_equiv))))))
 
 -- what `Debug` shows of a token: its subject, its algorithm, its expiry, how many audiences it has, and of its text the length
 abbrev pub svid_debug : Id → JwtAlg → ℤ → ℕ → ℕ → List ℕ

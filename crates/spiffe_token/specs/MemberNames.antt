@@ -1,5 +1,6 @@
 -- A member's name: a string with JSON's escapes (RFC 8259, section 7) resolved.
-use Rattle.std.specs.Prelude.{ℕ, zero, suc, ◌+◌, ◌-◌, ◌*◌, ◌||◌, ◌&&◌, ◌==◌, nat_lt, nat_le, List, [], ◌∷◌, ◌++◌, Bool, Option, Some, None, option_map, option_and_then, if◌then◌else◌, encode_utf8}
+use Rattle.std.specs.Prelude.{ℕ, zero, suc, ◌+◌, ◌-◌, ◌*◌, ◌||◌, ◌&&◌, ◌==◌, nat_lt, nat_le, List, [], ◌∷◌, ◌++◌, Bool, Option, Some, None, option_map}
+use Rattle.std.specs.Prelude.{option_and_then, if◌then◌else◌, encode_utf8}
 use Rattle.std.specs.Char.{digit_value}
 use Rattle.spiffe_token.specs.Strings.{strip}
 
@@ -11,7 +12,8 @@ hex_more high b = option_map (λ d. high * 16 + d) (hex b)
 
 -- the number that four hexadecimal digits spell, and what follows them
 abbrev pub hex4 : List ℕ → Option (ℕ × List ℕ)
-hex4 (a ∷ b ∷ c ∷ d ∷ rest) = option_map (λ n. (n, rest)) (option_and_then (λ h. hex_more h d) (option_and_then (λ h. hex_more h c) (option_and_then (λ h. hex_more h b) (hex a))))
+hex4 (a ∷ b ∷ c ∷ d ∷ rest) = option_map (λ n. (n, rest)) (option_and_then (λ h. hex_more h d)
+    (option_and_then (λ h. hex_more h c) (option_and_then (λ h. hex_more h b) (hex a))))
 hex4 _ = None
 
 abbrev pub is_high : ℕ → Bool

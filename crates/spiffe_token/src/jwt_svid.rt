@@ -42,7 +42,14 @@ impl Model for JwtSvid {
 
     ghost Value = { Svid };
 
-    ghost view = { λ s. record { token = string_bytes s.token; spiffe_id = s.spiffe_id; claims = s.claims; key_id = string_bytes s.key_id; alg = s.alg; hint = option_map string_bytes s.hint } };
+    ghost view = { λ s. record {
+      token = string_bytes s.token;
+      spiffe_id = s.spiffe_id;
+      claims = s.claims;
+      key_id = string_bytes s.key_id;
+      alg = s.alg;
+      hint = option_map string_bytes s.hint;
+    } };
 
     ghost invariant = { λ s. IsSvid s.claims s.spiffe_id };
 }

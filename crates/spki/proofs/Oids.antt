@@ -32,7 +32,8 @@ no_oid_of v der.FileFault h = h
 no_oid_of v der.FileTooLong h = h
 no_oid_of v der.OutOfMemory h = h
 
-pub no_parameters_oid : (v : PlainAny) (e : DerError) → DecodedAs 6 (λ b o. oid_content o ≡ b) v.tag v.content (Err e) → ParametersOid (Some v) (Err (from_der_error e))
+pub no_parameters_oid : (v : PlainAny) (e : DerError) → DecodedAs 6 (λ b o. oid_content o ≡ b) v.tag v.content (Err e)
+    → ParametersOid (Some v) (Err (from_der_error e))
 no_parameters_oid v der.Malformed h = no_oid_of v der.Malformed h
 no_parameters_oid v (der.TrailingData decoded remaining) h = h
 no_parameters_oid v (der.TagUnexpected expected actual) h = h

@@ -28,7 +28,9 @@ pub record Borrows {V P : Type 0} (plain : V → P) (der : P → List ℕ) (IsLa
   pub of : (p : P) → IsLawful p → length (der p) < 2 ^ 32 → V
   pub is : (p : P) (lawful : IsLawful p) (fits : length (der p) < 2 ^ 32) → plain (of p lawful fits) ≡ p
 
-pub same_written : {V P : Type 0} (Reads : List ℕ → V → Type 0) (encoding : V → List ℕ) (plain : V → P) (der : P → List ℕ) (IsLawful : P → Type 0) → AreWritten Reads encoding → ((b : List ℕ) (v : V) → Reads b v → length b < 2 ^ 32) → AreReadBack Reads encoding → ((v : V) → encoding v ≡ der (plain v)) → ((v : V) → IsLawful (plain v)) → Borrows plain der IsLawful → SameReads Reads (ReadsDer der IsLawful)
+pub same_written : {V P : Type 0} (Reads : List ℕ → V → Type 0) (encoding : V → List ℕ) (plain : V → P) (der : P → List ℕ) (IsLawful : P → Type 0)
+    → AreWritten Reads encoding → ((b : List ℕ) (v : V) → Reads b v → length b < 2 ^ 32) → AreReadBack Reads encoding
+    → ((v : V) → encoding v ≡ der (plain v)) → ((v : V) → IsLawful (plain v)) → Borrows plain der IsLawful → SameReads Reads (ReadsDer der IsLawful)
 same_written {V = V} {P = P} Reads encoding plain der IsLawful written short read seen lawful borrow =
     let fits_of : (b : List ℕ) (p : P) → ReadsDer der IsLawful b p → length (der p) < 2 ^ 32 = λ b p r. rw (← r.is) r.fits in
     record {
@@ -57,13 +59,15 @@ optional_of : BorrowsAny → (o : Option PlainAny) → IfSome o (λ p. IsTag p.t
 optional_of any None lawful fits = None
 optional_of any (Some p) lawful fits = Some (any.of p lawful fits)
 
-optional_is : (any : BorrowsAny) (o : Option PlainAny) (lawful : IfSome o (λ p. IsTag p.tag)) (fits : length (optional_bytes der_of o) < 2 ^ 32) → option_map plain_ref (optional_of any o lawful fits) ≡ o
+optional_is : (any : BorrowsAny) (o : Option PlainAny) (lawful : IfSome o (λ p. IsTag p.tag)) (fits : length (optional_bytes der_of o) < 2 ^ 32)
+    → option_map plain_ref (optional_of any o lawful fits) ≡ o
 unfolding optional_of
 optional_is any None lawful fits = refl
 optional_is any (Some p) lawful fits = ap (λ (q : PlainAny). Some q) (any.is p lawful fits)
 
 parameters_fit : (p : PlainAlgorithm) → length (algorithm_der p) < 2 ^ 32 → length (optional_bytes der_of p.parameters) < 2 ^ 32
-parameters_fit p fits = rest_fits (encode 6 p.oid) (optional_bytes der_of p.parameters) (content_fits 48 (encode 6 p.oid ++ optional_bytes der_of p.parameters) fits)
+parameters_fit p fits = rest_fits (encode 6 p.oid) (optional_bytes der_of p.parameters)
+    (content_fits 48 (encode 6 p.oid ++ optional_bytes der_of p.parameters) fits)
 
 algorithm_of : BorrowsAny → (p : PlainAlgorithm) → IsAlgorithm p → length (algorithm_der p) < 2 ^ 32 → AlgorithmIdentifier AnyRef
 algorithm_of any p lawful fits = record {
@@ -71,10 +75,15 @@ algorithm_of any p lawful fits = record {
   parameters = optional_of any p.parameters lawful.parameters (parameters_fit p fits);
 }
 
-algorithm_is : (any : BorrowsAny) (p : PlainAlgorithm) (lawful : IsAlgorithm p) (fits : length (algorithm_der p) < 2 ^ 32) → plain_algorithm plain_ref (algorithm_of any p lawful fits) ≡ p
+algorithm_is : (any : BorrowsAny) (p : PlainAlgorithm) (lawful : IsAlgorithm p) (fits : length (algorithm_der p) < 2 ^ 32)
+    → plain_algorithm plain_ref (algorithm_of any p lawful fits) ≡ p
 unfolding algorithm_of
 algorithm_is any p lawful fits =
-    let with_oid : List ℕ → PlainAlgorithm = λ o. record { oid = o; parameters = option_map plain_ref (optional_of any p.parameters lawful.parameters (parameters_fit p fits)) } in
+    let with_oid : List ℕ → PlainAlgorithm = λ o. record {
+      oid = o;
+      parameters =
+          option_map plain_ref (optional_of any p.parameters lawful.parameters (parameters_fit p fits));
+    } in
     let with_parameters : Option PlainAny → PlainAlgorithm = λ o. record { oid = p.oid; parameters = o } in
     ap with_oid (oid_of_content p.oid lawful.oid) ∙ ap with_parameters (optional_is any p.parameters lawful.parameters (parameters_fit p fits))
 
@@ -104,28 +113,34 @@ algorithm_plain b v r = record { is = algorithm_written b v r ∙ algorithm_seen
 
 pub same_algorithms : BorrowsAny → SameReads ReadsAlgorithmRef ReadsAlgorithm
 same_algorithms any =
-    same_written ReadsAlgorithmRef algorithm_ref_encoding (plain_algorithm plain_ref) algorithm_der IsAlgorithm algorithm_written (λ b v r. r.fits) algorithm_read algorithm_seen algorithm_lawful (borrows_algorithm any)
+    same_written ReadsAlgorithmRef algorithm_ref_encoding (plain_algorithm plain_ref) algorithm_der IsAlgorithm algorithm_written (λ b v r. r.fits)
+    algorithm_read algorithm_seen algorithm_lawful (borrows_algorithm any)
 
 -- Public keys.
 abbrev pub BorrowsBits : Type 0
 BorrowsBits = (p : PlainBits) → AreBits p.unused_bits p.octets → (v : BitStringRef) × (plain_bits_ref v ≡ p)
 
 abbrev pub ReadsPublicKeyRef : List ℕ → SubjectPublicKeyInfo AnyRef BitStringRef → Type 0
-ReadsPublicKeyRef = ReadsTagged 48 (PublicKeyContent (λ b (v : AnyRef). ReadsAny b v.tag.byte v.value.now) (ReadsTagged 3 (λ b (v : BitStringRef). b ≡ v.unused_bits ∷ v.raw.now)))
+ReadsPublicKeyRef = ReadsTagged 48 (PublicKeyContent (λ b (v : AnyRef). ReadsAny b v.tag.byte v.value.now)
+    (ReadsTagged 3 (λ b (v : BitStringRef). b ≡ v.unused_bits ∷ v.raw.now)))
 
 abbrev pub public_key_encoding : SubjectPublicKeyInfo AnyRef BitStringRef → List ℕ
-public_key_encoding v = encode 48 (public_key_content (λ (v : AnyRef). encode v.tag.byte v.value.now) (λ (v : BitStringRef). encode 3 (v.unused_bits ∷ v.raw.now)) v)
+public_key_encoding v = encode 48 (public_key_content (λ (v : AnyRef). encode v.tag.byte v.value.now)
+    (λ (v : BitStringRef). encode 3 (v.unused_bits ∷ v.raw.now)) v)
 
 pub public_key_written : (b : List ℕ) (v : SubjectPublicKeyInfo AnyRef BitStringRef) → ReadsPublicKeyRef b v → b ≡ public_key_encoding v
 public_key_written =
-    tagged_reads_encoding 48 _ _ (public_key_reads_content _ _ _ _ (λ b v r. any_reads_encoding b v.tag.byte v.value.now r) (tagged_reads_encoding 3 _ _ (λ b v h. h)))
+    tagged_reads_encoding 48 _ _ (public_key_reads_content _ _ _ _ (λ b v r. any_reads_encoding b v.tag.byte v.value.now r)
+    (tagged_reads_encoding 3 _ _ (λ b v h. h)))
 
 pub public_key_read : (v : SubjectPublicKeyInfo AnyRef BitStringRef) → length (public_key_encoding v) < 2 ^ 32 → ReadsPublicKeyRef (public_key_encoding v) v
 public_key_read =
-    tagged_encoding_reads 48 _ _ (public_key_content_reads _ _ _ _ (λ v fits. any_encoding_reads v.tag.byte v.value.now fits) (tagged_encoding_reads 3 _ _ (λ v fits. refl)))
+    tagged_encoding_reads 48 _ _ (public_key_content_reads _ _ _ _ (λ v fits. any_encoding_reads v.tag.byte v.value.now fits)
+    (tagged_encoding_reads 3 _ _ (λ v fits. refl)))
 
 pub public_key_seen : (v : SubjectPublicKeyInfo AnyRef BitStringRef) → public_key_encoding v ≡ public_key_der (plain_public_key_ref v)
-public_key_seen v = ap (λ (x : List ℕ). encode 48 (x ++ encode 3 (v.subject_public_key.unused_bits ∷ v.subject_public_key.raw.now))) (algorithm_seen v.algorithm)
+public_key_seen v = ap (λ (x : List ℕ). encode 48 (x ++ encode 3 (v.subject_public_key.unused_bits ∷ v.subject_public_key.raw.now)))
+    (algorithm_seen v.algorithm)
 
 pub public_key_lawful : (v : SubjectPublicKeyInfo AnyRef BitStringRef) → IsPublicKey (plain_public_key_ref v)
 public_key_lawful v = record { algorithm = algorithm_lawful v.algorithm; key = v.subject_public_key.are_bits }
@@ -141,7 +156,8 @@ public_key_of any bits p lawful fits = record {
   subject_public_key = (bits p.key lawful.key).0;
 }
 
-public_key_is : (any : BorrowsAny) (bits : BorrowsBits) (p : PlainPublicKey) (lawful : IsPublicKey p) (fits : length (public_key_der p) < 2 ^ 32) → plain_public_key_ref (public_key_of any bits p lawful fits) ≡ p
+public_key_is : (any : BorrowsAny) (bits : BorrowsBits) (p : PlainPublicKey) (lawful : IsPublicKey p) (fits : length (public_key_der p) < 2 ^ 32)
+    → plain_public_key_ref (public_key_of any bits p lawful fits) ≡ p
 unfolding public_key_of
 public_key_is any bits p lawful fits =
     let key : PlainBits = plain_bits_ref (bits p.key lawful.key).0 in
@@ -151,5 +167,6 @@ public_key_is any bits p lawful fits =
 
 pub same_public_keys : BorrowsAny → BorrowsBits → SameReads ReadsPublicKeyRef ReadsPublicKey
 same_public_keys any bits =
-    same_written ReadsPublicKeyRef public_key_encoding plain_public_key_ref public_key_der IsPublicKey public_key_written (λ b v r. r.fits) public_key_read public_key_seen public_key_lawful
+    same_written ReadsPublicKeyRef public_key_encoding plain_public_key_ref public_key_der IsPublicKey public_key_written (λ b v r. r.fits) public_key_read
+    public_key_seen public_key_lawful
     (record { of = public_key_of any bits; is = public_key_is any bits })

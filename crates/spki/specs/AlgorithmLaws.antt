@@ -24,7 +24,8 @@ pub algorithm_reads_content : {P : Type 0} (Reads : List ℕ → P → Type 0) (
     b ≡ algorithm_content encoding v
 algorithm_reads_content Reads encoding law b v a =
     let o : a.front ≡ encode oid_tag (oid_content v.oid) = a.reads.is ∙ ap (λ (x : List ℕ). encode oid_tag x) (sym a.reads.has) in
-    a.is ∙ ap (λ (x : List ℕ). x ++ a.rest) o ∙ ap (λ (x : List ℕ). encode oid_tag (oid_content v.oid) ++ x) (parameters_are Reads encoding a.rest v.parameters law a.next)
+    a.is ∙ ap (λ (x : List ℕ). x ++ a.rest) o ∙ ap (λ (x : List ℕ). encode oid_tag (oid_content v.oid) ++ x)
+    (parameters_are Reads encoding a.rest v.parameters law a.next)
 
 pub algorithm_content_reads : {P : Type 0} (Reads : List ℕ → P → Type 0) (encoding : P → List ℕ) →
     AreReadBack Reads encoding → (v : AlgorithmIdentifier P) → length (algorithm_content encoding v) < 2 ^ 32 →

@@ -1,5 +1,6 @@
 -- One answer to each list of bytes.
-use Rattle.std.proofs.Common.{◌≡◌, ℕ, ◌<◌, ◌^◌, nat_lt, List, [], ◌∷◌, ◌++◌, length, Bool, true, false, Option, Some, None, Result, Ok, Err, IfSome, refl, sym, ap, subst, ◌∙◌, if◌then◌else◌}
+use Rattle.std.proofs.Common.{◌≡◌, ℕ, ◌<◌, ◌^◌, nat_lt, List, [], ◌∷◌, ◌++◌, length, Bool, true, false, Option, Some, None, Result, Ok, Err, IfSome, refl, sym}
+use Rattle.std.proofs.Common.{ap, subst, ◌∙◌, if◌then◌else◌}
 use Rattle.der_core.specs.Any.{PlainAny, der_of}
 use Rattle.der_core.specs.Decode.{NoFront, Trails}
 use Rattle.der_core.specs.Der.{IsTag, IsValue, encode}
@@ -24,7 +25,8 @@ pub data Outcome {P E : Type 0} (asn1 : DerError → E) (Reads : List ℕ → P 
 
 pub same_outcome : {P E : Type 0} (asn1 : DerError → E) (Reads : List ℕ → P → Type 0) → ReadsOne Reads →
     (bytes : List ℕ) (r s : Result P E) → Outcome asn1 Reads bytes r → Outcome asn1 Reads bytes s → r ≡ s
-same_outcome {P = P} {E = E} asn1 Reads law bytes r s (read v e h) (read w f k) = let ok : P → Result P E = λ x. Ok x in e ∙ ap ok (law.one bytes v w h k) ∙ sym f
+same_outcome {P = P} {E = E} asn1 Reads law bytes r s (read v e h) (read w f k) = let ok : P → Result P E = λ x. Ok x in e ∙ ap ok (law.one bytes v w h k)
+    ∙ sym f
 same_outcome asn1 Reads law bytes r s (read v e h) (malformed f k) = absurd (no_front_of Reads bytes v h k)
 same_outcome asn1 Reads law bytes r s (read v e h) (trailing d n f k) = absurd (no_trail_of Reads law bytes v d n h k)
 same_outcome asn1 Reads law bytes r s (malformed e h) (read w f k) = absurd (no_front_of Reads bytes w k h)
@@ -96,9 +98,11 @@ same_fields : (p q : PlainAlgorithm) → IsAlgorithm p → IsAlgorithm q →
     p ≡ q
 same_fields p q lp lq fp fq e =
     let same = same_value 6 p.oid (optional_bytes der_of p.parameters) 6 q.oid (optional_bytes der_of q.parameters)
-    tag_6 (front_fits (encode oid_tag p.oid) (optional_bytes der_of p.parameters) fp) tag_6 (front_fits (encode oid_tag q.oid) (optional_bytes der_of q.parameters) fq) e in
+    tag_6 (front_fits (encode oid_tag p.oid) (optional_bytes der_of p.parameters) fp) tag_6
+    (front_fits (encode oid_tag q.oid) (optional_bytes der_of q.parameters) fq) e in
     let parameters = same_parameters p.parameters q.parameters lp.parameters lq.parameters
-    (rest_fits (encode oid_tag p.oid) (optional_bytes der_of p.parameters) fp) (rest_fits (encode oid_tag q.oid) (optional_bytes der_of q.parameters) fq) same.rests in
+    (rest_fits (encode oid_tag p.oid) (optional_bytes der_of p.parameters) fp) (rest_fits (encode oid_tag q.oid) (optional_bytes der_of q.parameters) fq)
+    same.rests in
     let with_oid : List ℕ → PlainAlgorithm = λ o. record { oid = o; parameters = p.parameters } in
     let with_parameters : Option PlainAny → PlainAlgorithm = λ o. record { oid = q.oid; parameters = o } in
     ap with_oid same.contents ∙ ap with_parameters parameters
@@ -120,13 +124,16 @@ same_keys p q lp lq fp fq e =
     let a_q : List ℕ = encode oid_tag q.algorithm.oid ++ optional_bytes der_of q.algorithm.parameters in
     let content_p = content_fits sequence_tag (encode sequence_tag a_p ++ key_p) fp in
     let content_q = content_fits sequence_tag (encode sequence_tag a_q ++ key_q) fq in
-    let whole = same_value 48 (encode sequence_tag a_p ++ key_p) [] 48 (encode sequence_tag a_q ++ key_q) [] tag_48 fp tag_48 fq (ap (λ (x : List ℕ). x ++ []) e) in
+    let whole = same_value 48 (encode sequence_tag a_p ++ key_p) [] 48 (encode sequence_tag a_q ++ key_q) [] tag_48 fp tag_48 fq
+    (ap (λ (x : List ℕ). x ++ []) e) in
     let fit_p = front_fits (encode sequence_tag a_p) key_p content_p in
     let fit_q = front_fits (encode sequence_tag a_q) key_q content_q in
     let parts = same_value 48 a_p key_p 48 a_q key_q tag_48 fit_p tag_48 fit_q whole.contents in
-    let algorithm = same_fields p.algorithm q.algorithm lp.algorithm lq.algorithm (content_fits sequence_tag a_p fit_p) (content_fits sequence_tag a_q fit_q) parts.contents in
+    let algorithm = same_fields p.algorithm q.algorithm lp.algorithm lq.algorithm (content_fits sequence_tag a_p fit_p)
+    (content_fits sequence_tag a_q fit_q) parts.contents in
     let key = same_value 3 (p.key.unused_bits ∷ p.key.octets) [] 3 (q.key.unused_bits ∷ q.key.octets) []
-    tag_3 (rest_fits (encode sequence_tag a_p) key_p content_p) tag_3 (rest_fits (encode sequence_tag a_q) key_q content_q) (ap (λ (x : List ℕ). x ++ []) parts.rests) in
+    tag_3 (rest_fits (encode sequence_tag a_p) key_p content_p) tag_3 (rest_fits (encode sequence_tag a_q) key_q content_q)
+    (ap (λ (x : List ℕ). x ++ []) parts.rests) in
     let bits : p.key.unused_bits ∷ p.key.octets ≡ q.key.unused_bits ∷ q.key.octets = key.contents in
     let unused : p.key.unused_bits ≡ q.key.unused_bits = ap first bits in
     let octets : p.key.octets ≡ q.key.octets = ap after_first bits in
@@ -145,7 +152,8 @@ public_key_value b p r = record {
 }
 
 public_key_one : (b : List ℕ) (p q : PlainPublicKey) → ReadsPublicKey b p → ReadsPublicKey b q → p ≡ q
-public_key_one b p q r s = same_keys p q r.lawful s.lawful (subst (λ (x : List ℕ). length x < 2 ^ 32) r.is r.fits) (subst (λ (x : List ℕ). length x < 2 ^ 32) s.is s.fits) (sym r.is ∙ s.is)
+public_key_one b p q r s = same_keys p q r.lawful s.lawful (subst (λ (x : List ℕ). length x < 2 ^ 32) r.is r.fits)
+    (subst (λ (x : List ℕ). length x < 2 ^ 32) s.is s.fits) (sym r.is ∙ s.is)
 
 pub reads_one_public_key : ReadsOne ReadsPublicKey
 reads_one_public_key = record { value = public_key_value; one = public_key_one }
@@ -164,4 +172,10 @@ algorithm_one b p q r s =
     same_fields p q r.lawful s.lawful (content_fits sequence_tag a_p fit_p) (content_fits sequence_tag a_q fit_q) same.contents
 
 pub algorithm_value : (b : List ℕ) (p : PlainAlgorithm) → ReadsAlgorithm b p → IsValue b
-algorithm_value b p r = record { tag = sequence_tag; content = encode oid_tag p.oid ++ optional_bytes der_of p.parameters; tag_ok = tag_48; is = r.is; fits = r.fits }
+algorithm_value b p r = record {
+  tag = sequence_tag;
+  content = encode oid_tag p.oid ++ optional_bytes der_of p.parameters;
+  tag_ok = tag_48;
+  is = r.is;
+  fits = r.fits;
+}

@@ -29,7 +29,8 @@ pub options_decide : {X : Type 0} (same : X → X → Bool) → ((x y : X) → D
 options_decide same decides None None = (λ e. refl, λ e. refl)
 options_decide same decides None (Some y) = (λ e. cc, λ e. cc)
 options_decide same decides (Some x) None = (λ e. cc, λ e. cc)
-options_decide {X = X} same decides (Some x) (Some y) = let some : X → Option X = λ z. Some z in (λ e. ap some ((decides x y).0 e), λ e. (decides x y).1 (same_Some x y e))
+options_decide {X = X} same decides (Some x) (Some y) = let some : X → Option X = λ z. Some z in
+    (λ e. ap some ((decides x y).0 e), λ e. (decides x y).1 (same_Some x y e))
 
 -- Optional parts that are seen in another way.
 pub options_seen : {X Y : Type 0} (same : Y → Y → Bool) (seen : X → Y) (p q : Option X) →

@@ -54,7 +54,8 @@ takes_some_one {P = P} {Q = Q} {E = E} take refusal HasAnswer law bytes (Err e) 
     ap err same
 takes_some_one take refusal HasAnswer law bytes (Err e) (Err f) (inl h) (inr k) = absurd (not_both HasAnswer law bytes k.1.key e k.1.answer h)
 takes_some_one take refusal HasAnswer law bytes (Err e) (Err f) (inr h) (inl k) = absurd (not_both HasAnswer law bytes h.1.key f h.1.answer k)
-takes_some_one {Q = Q} {E = E} take refusal HasAnswer law bytes (Err e) (Err f) (inr h) (inr k) = let err : E → Result Q E = λ x. Err x in ap err (h.0 ∙ sym k.0)
+takes_some_one {Q = Q} {E = E} take refusal HasAnswer law bytes (Err e) (Err f) (inr h) (inr k) = let err : E → Result Q E = λ x. Err x in
+    ap err (h.0 ∙ sym k.0)
 
 pub takes_some_no_file :
     {P Q E : Type 0} (take : P → Option Q) (refusal : E) (HasAnswer : List ℕ → Result P E → Type 0) (IsSuch : E → Type 0) →

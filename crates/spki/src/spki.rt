@@ -90,13 +90,16 @@ impl<Params: Encode, Key: Encode> EncodeValue for SubjectPublicKeyInfo<Params, K
 
 impl<'a, Params: Choice<'a>, Key: Lawful<'a>> LawfulValue<'a>
     for SubjectPublicKeyInfo<Params, Key> {
-    ghost reads_content = { λ b v has. public_key_reads_content Params.Reads Key.Reads Params.encoding Key.encoding Params.reads_encoding Key.reads_encoding b v has };
+    ghost reads_content = { λ b v has. public_key_reads_content Params.Reads Key.Reads Params.encoding Key.encoding Params.reads_encoding Key.reads_encoding
+        b v has };
 
-    ghost content_reads = { λ v fits. public_key_content_reads Params.Reads Key.Reads Params.encoding Key.encoding Params.encoding_reads Key.encoding_reads v fits };
+    ghost content_reads = { λ v fits. public_key_content_reads Params.Reads Key.Reads Params.encoding Key.encoding Params.encoding_reads Key.encoding_reads
+        v fits };
 }
 
 impl<Params: DerOrd + Encode, Key: ValueOrd> ValueOrd for SubjectPublicKeyInfo<Params, Key> {
-    ghost value_order = { λ a b. and_then (⟦<AlgorithmIdentifier<Params> as DerOrd>⟧.der_order a.algorithm b.algorithm) (Key.value_order a.subject_public_key b.subject_public_key) };
+    ghost value_order = { λ a b. and_then (⟦<AlgorithmIdentifier<Params> as DerOrd>⟧.der_order a.algorithm b.algorithm)
+        (Key.value_order a.subject_public_key b.subject_public_key) };
 
     fn value_cmp(&self, other: &Self) -> der_small::Result<Ordering> {
         match self.algorithm.der_cmp(&other.algorithm)? {

@@ -1,5 +1,6 @@
 -- Digits at the front of a text, and their value up to the cap.
-use Rattle.std.proofs.Common.{◌≡◌, ℕ, suc, ◌+◌, ◌*◌, ◌<◌, ◌≤◌, Bool, true, false, cond, ◌&&◌, List, [], ◌∷◌, take, drop, length, get_or, refl, subst, add-one, arith, ◌⊎◌, inl, inr}
+use Rattle.std.proofs.Common.{◌≡◌, ℕ, suc, ◌+◌, ◌*◌, ◌<◌, ◌≤◌, Bool, true, false, cond, ◌&&◌, List, [], ◌∷◌, take, drop, length, get_or, refl, subst, add-one}
+use Rattle.std.proofs.Common.{arith, ◌⊎◌, inl, inr}
 use Rattle.std.specs.List.{prefix_len, list_all}
 use Rattle.std.specs.Char.{is_ascii_digit, digit_value}
 use Rattle.std.specs.Str.Parse.{AllDigits, digits_value_after}
@@ -20,7 +21,8 @@ pub front_digits : (xs : List ℕ) → AllDigits 10 (take (prefix_len is_ascii_d
 front_digits [] = tt
 front_digits (x ∷ xs) = front_at x xs (prefix_len is_ascii_digit xs) (front_digits xs) (is_ascii_digit x) refl
 
-digits_at : (x : ℕ) (xs : List ℕ) → (list_all is_ascii_digit xs ≡ true → AllDigits 10 xs) → (b : Bool) → is_ascii_digit x ≡ b → (b && list_all is_ascii_digit xs) ≡ true → AllDigits 10 (x ∷ xs)
+digits_at : (x : ℕ) (xs : List ℕ) → (list_all is_ascii_digit xs ≡ true → AllDigits 10 xs) → (b : Bool) → is_ascii_digit x ≡ b
+    → (b && list_all is_ascii_digit xs) ≡ true → AllDigits 10 (x ∷ xs)
 digits_at x xs more true e h = (digit_below x e, more h)
 digits_at x xs more false e h = absurd (cc)
 

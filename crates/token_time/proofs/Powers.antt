@@ -2,7 +2,8 @@
 use Rattle.std.proofs.Common.{◌≡◌, ℕ, zero, suc, ◌+◌, ◌-◌, ◌*◌, ◌/◌, ◌%◌, ◌<◌, ◌≤◌, ◌^◌, min, eqb, Option, Some, option_map, sym, ap, ◌∙◌, arith, ◌⊎◌, inl, inr}
 use Rattle.std.proofs.lemmas.Bool.{cases_lt}
 use Rattle.std.proofs.lemmas.Nat.{pow-add, mod-mul-add, div-add-mod'}
-use Rattle.std.proofs.Math.Nat.{pow-le-pow_right, one-le-pow, mul-mod_left, mul-div_cancel, mul-div-mul_right, mod-lt, mul-lt-mul_of_pos_right, mul_assoc, add-mul}
+use Rattle.std.proofs.Math.Nat.{pow-le-pow_right, one-le-pow, mul-mod_left, mul-div_cancel, mul-div-mul_right, mod-lt, mul-lt-mul_of_pos_right, mul_assoc}
+use Rattle.std.proofs.Math.Nat.{add-mul}
 use Rattle.std.proofs.lemmas.Bool.Decides.{nat_tests}
 use Rattle.token_time.specs.Decimal.{capped}
 use Rattle.token_time.specs.Nanoseconds.{whole_quotient}
@@ -11,7 +12,8 @@ pub power_pos : (k : ℕ) → 0 < 10 ^ k
 power_pos k = let p : 1 ≤ 10 ^ k = one-le-pow k 10 (omega arith) in omega arith
 
 -- one zero more
-pub product_step : (value product next k : ℕ) → product ≡ capped (value * 10 ^ k) → next ≡ min (product * 10) 1000000000000000000000 → next ≡ capped (value * 10 ^ (k + 1))
+pub product_step : (value product next k : ℕ) → product ≡ capped (value * 10 ^ k) → next ≡ min (product * 10) 1000000000000000000000
+    → next ≡ capped (value * 10 ^ (k + 1))
 product_step value product next k is e =
     let s : 10 ^ (k + 1) ≡ 10 ^ k * 10 = pow-add 10 k 1 in
     let a : value * 10 ^ k * 10 ≡ value * (10 ^ k * 10) = mul_assoc value (10 ^ k) 10 in

@@ -1,5 +1,6 @@
 -- The cap is above every time.
-use Rattle.std.proofs.Common.{◌≡◌, ℕ, zero, suc, ◌<◌, ◌≤◌, Bool, true, false, ℤ, Option, Some, None, option_map, option_and_then, sym, ◌∙◌, arith, ◌⊎◌, inl, inr}
+use Rattle.std.proofs.Common.{◌≡◌, ℕ, zero, suc, ◌<◌, ◌≤◌, Bool, true, false, ℤ, Option, Some, None, option_map, option_and_then, sym, ◌∙◌, arith, ◌⊎◌, inl}
+use Rattle.std.proofs.Common.{inr}
 use Rattle.std.proofs.lemmas.Bool.{cases_lt}
 use Rattle.std.proofs.lemmas.Bool.Decides.{nat_tests}
 use Rattle.std.proofs.lemmas.Int.{ints}
@@ -18,6 +19,7 @@ capped_time b m = by_size (cases_lt 1000000000000000000000 m)
     by_size (inr small) = let e : capped m ≡ m = omega arith in rw e
     by_size (inl big) = none_past b (capped m) (omega arith) ∙ sym (none_past b m (omega arith))
 
-pub time_answer : (t : Option ℤ) (o : Option ℕ) (v : ℕ) (b : Bool) → Some v ≡ option_map capped o → t ≡ if_in_years (signed b v) → t ≡ option_and_then (λ m. if_in_years (signed b m)) o
+pub time_answer : (t : Option ℤ) (o : Option ℕ) (v : ℕ) (b : Bool) → Some v ≡ option_map capped o → t ≡ if_in_years (signed b v)
+    → t ≡ option_and_then (λ m. if_in_years (signed b m)) o
 time_answer t None v b e is = absurd (cc)
 time_answer t (Some m) v b e is = let same : v ≡ capped m = cc in rw (is, same) (capped_time b m)

@@ -1,5 +1,6 @@
 -- A number without the digits at its end.
-use Rattle.std.proofs.Common.{◌≡◌, ℕ, zero, suc, ◌+◌, ◌-◌, ◌*◌, ◌/◌, ◌%◌, ◌<◌, ◌≤◌, ◌^◌, eqb, Bool, true, false, cond, ◌&&◌, List, [], ◌∷◌, ◌++◌, take, drop, length, Some, None, option_map, refl, sym, ap, ◌∙◌, subst, append_assoc, length-append, length-drop, arith, ◌⊎◌, inl, inr}
+use Rattle.std.proofs.Common.{◌≡◌, ℕ, zero, suc, ◌+◌, ◌-◌, ◌*◌, ◌/◌, ◌%◌, ◌<◌, ◌≤◌, ◌^◌, eqb, Bool, true, false, cond, ◌&&◌, List, [], ◌∷◌, ◌++◌, take, drop}
+use Rattle.std.proofs.Common.{length, Some, None, option_map, refl, sym, ap, ◌∙◌, subst, append_assoc, length-append, length-drop, arith, ◌⊎◌, inl, inr}
 use Rattle.std.specs.Char.{digit_value}
 use Rattle.std.specs.Str.Parse.{AllDigits, digits_value_after, digits_value}
 use Rattle.std.proofs.lemmas.Bool.{cases_lt}
@@ -19,7 +20,8 @@ value_append n [] ys = refl
 value_append n (x ∷ xs) ys = value_append (n * 10 + digit_value x) xs ys
 
 -- two lists of digits in turn
-pub capped_both : (xs ys : List ℕ) (v1 v2 : ℕ) → v1 ≡ capped (digits_value 10 xs) → v2 ≡ capped (digits_value_after 10 v1 ys) → v2 ≡ capped (digits_value 10 (xs ++ ys))
+pub capped_both : (xs ys : List ℕ) (v1 v2 : ℕ) → v1 ≡ capped (digits_value 10 xs) → v2 ≡ capped (digits_value_after 10 v1 ys)
+    → v2 ≡ capped (digits_value 10 (xs ++ ys))
 capped_both xs ys v1 v2 e1 e2 = rw (e2, e1, value_append 0 xs ys) (capped_after (digits_value 10 xs) ys)
 
 value_after : (n : ℕ) (ds : List ℕ) → digits_value_after 10 n ds ≡ n * 10 ^ length ds + digits_value 10 ds
@@ -29,7 +31,8 @@ value_after n (d ∷ ds) =
     let b = value_after (0 * 10 + digit_value d) ds in
     let z : 0 * 10 + digit_value d ≡ digit_value d = omega arith in
     let s : 10 ^ suc (length ds) ≡ 10 * 10 ^ length ds = pow-succ' 10 (length ds) in
-    let d1 : (n * 10 + digit_value d) * 10 ^ length ds ≡ n * 10 * 10 ^ length ds + digit_value d * 10 ^ length ds = add-mul (n * 10) (digit_value d) (10 ^ length ds) in
+    let d1 : (n * 10 + digit_value d) * 10 ^ length ds ≡ n * 10 * 10 ^ length ds + digit_value d * 10 ^ length ds =
+    add-mul (n * 10) (digit_value d) (10 ^ length ds) in
     let d2 : n * 10 * 10 ^ length ds ≡ n * (10 * 10 ^ length ds) = mul_assoc n 10 (10 ^ length ds) in
     rw (s, a, b, z) (omega arith)
 
@@ -67,10 +70,13 @@ module _ (front back : List ℕ) (z : ℕ) (digits : AllDigits 10 back) where
   pub quotient_at : length back ≡ z → whole_quotient (digits_value 10 (front ++ back)) 0 z ≡ cond (all_zeros back) (Some (digits_value 10 front)) None
   quotient_at e =
       let b : digits_value 10 back < 10 ^ z = subst (λ n. digits_value 10 back < 10 ^ n) e below in
-      let p : digits_value 10 (front ++ back) ≡ digits_value 10 front * 10 ^ z + digits_value 10 back = subst (λ n. digits_value 10 (front ++ back) ≡ digits_value 10 front * 10 ^ n + digits_value 10 back) e parts in
-      from_parts (rw p (mod-mul-add (digits_value 10 front) (10 ^ z) (digits_value 10 back) b)) (rw p (div-mul-add (digits_value 10 front) (10 ^ z) (digits_value 10 back) b))
+      let p : digits_value 10 (front ++ back) ≡ digits_value 10 front * 10 ^ z + digits_value 10 back =
+      subst (λ n. digits_value 10 (front ++ back) ≡ digits_value 10 front * 10 ^ n + digits_value 10 back) e parts in
+      from_parts (rw p (mod-mul-add (digits_value 10 front) (10 ^ z) (digits_value 10 back) b))
+      (rw p (div-mul-add (digits_value 10 front) (10 ^ z) (digits_value 10 back) b))
 
-  pub quotient_past : length back ≤ z → front ≡ [] → whole_quotient (digits_value 10 (front ++ back)) 0 z ≡ cond (all_zeros back) (Some (digits_value 10 front)) None
+  pub quotient_past : length back ≤ z → front ≡ [] → whole_quotient (digits_value 10 (front ++ back)) 0 z
+      ≡ cond (all_zeros back) (Some (digits_value 10 front)) None
   quotient_past h e =
       let v : digits_value 10 front ≡ 0 = rw e refl in
       let p : digits_value 10 (front ++ back) ≡ digits_value 10 back = rw e refl in
@@ -109,7 +115,8 @@ module _ (w f : List ℕ) (z k : ℕ) (hw : AllDigits 10 w) (hf : AllDigits 10 f
   quotient : whole_quotient (digits_value 10 (take k w ++ (drop k w ++ f))) 0 z ≡ cond (all_zeros (drop k w ++ f)) (Some (digits_value 10 (take k w))) None
   quotient = by_size (cases_lt (length w) (z - length f))
     where
-      by_size : (length w < z - length f) ⊎ (z - length f ≤ length w) → whole_quotient (digits_value 10 (take k w ++ (drop k w ++ f))) 0 z ≡ cond (all_zeros (drop k w ++ f)) (Some (digits_value 10 (take k w))) None
+      by_size : (length w < z - length f) ⊎ (z - length f ≤ length w)
+          → whole_quotient (digits_value 10 (take k w ++ (drop k w ++ f))) 0 z ≡ cond (all_zeros (drop k w ++ f)) (Some (digits_value 10 (take k w))) None
       by_size (inl short) =
           let none : k ≡ 0 = omega arith in
           quotient_past (take k w) (drop k w ++ f) z both (omega (arith, len)) (rw none refl)
@@ -118,7 +125,8 @@ module _ (w f : List ℕ) (z k : ℕ) (hw : AllDigits 10 w) (hf : AllDigits 10 f
   past_end : whole_quotient (digits_value 10 (w ++ f)) 0 z ≡ cond (all_zeros (drop k w) && all_zeros f) (Some (digits_value 10 (take k w))) None
   past_end = rw all (quotient ∙ ap (λ b. cond b (Some (digits_value 10 (take k w))) None) zeros)
 
-within_end : (w f : List ℕ) (z i : ℕ) → AllDigits 10 f → z ≤ length f → i ≡ length f - z → whole_quotient (digits_value 10 (w ++ f)) 0 z ≡ cond (all_zeros (drop i f)) (Some (digits_value 10 (w ++ take i f))) None
+within_end : (w f : List ℕ) (z i : ℕ) → AllDigits 10 f → z ≤ length f → i ≡ length f - z
+    → whole_quotient (digits_value 10 (w ++ f)) 0 z ≡ cond (all_zeros (drop i f)) (Some (digits_value 10 (w ++ take i f))) None
 within_end w f z i hf within kept =
     let all : w ++ f ≡ (w ++ take i f) ++ drop i f = ap (λ x. w ++ x) (sym (take-append-drop i f)) ∙ sym (append_assoc w (take i f) (drop i f)) in
     let len : length (drop i f) ≡ z = omega (arith, length-drop i f) in
@@ -148,7 +156,8 @@ module _ (w f : List ℕ) (z wz : ℕ) (w1 w2 f1 f2 : List ℕ) (b : Bool) (hw :
   answer : whole_quotient (digits_value 10 (w ++ f)) 0 z ≡ cond b (Some (digits_value 10 (w1 ++ f1))) None
   answer = rw (test, w1s, w2s, f1s, f2s, wzs) (without_end w f z hw hf)
 
-  pub some_left : b ≡ true → (v1 v2 : ℕ) → v1 ≡ capped (digits_value 10 w1) → v2 ≡ capped (digits_value_after 10 v1 f1) → Some v2 ≡ option_map capped (whole_quotient (digits_value 10 (w ++ f)) 0 z)
+  pub some_left : b ≡ true → (v1 v2 : ℕ) → v1 ≡ capped (digits_value 10 w1) → v2 ≡ capped (digits_value_after 10 v1 f1)
+      → Some v2 ≡ option_map capped (whole_quotient (digits_value 10 (w ++ f)) 0 z)
   some_left holds v1 v2 e1 e2 = let v = capped_both w1 f1 v1 v2 e1 e2 in rw (answer, holds) (ap Some v)
 
   pub none_left : b ≡ false → None ≡ option_map capped (whole_quotient (digits_value 10 (w ++ f)) 0 z)

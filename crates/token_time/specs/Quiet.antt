@@ -1,5 +1,6 @@
 -- Claims whose time `nbf` (RFC 7519, section 4.1.5) is set apart: what is left of them is read as claims without it are.
-use Rattle.std.specs.Prelude.{ℕ, ℤ, nat_eq, ◌-◌, ◌==◌, ◌||◌, ◌&&◌, List, [], ◌∷◌, ◌++◌, take, drop, Bool, false, Option, Some, None, option_map, codes, if◌then◌else◌}
+use Rattle.std.specs.Prelude.{ℕ, ℤ, nat_eq, ◌-◌, ◌==◌, ◌||◌, ◌&&◌, List, [], ◌∷◌, ◌++◌, take, drop, Bool, false, Option, Some, None, option_map, codes}
+use Rattle.std.specs.Prelude.{if◌then◌else◌}
 use Rattle.std.specs.List.{find}
 use Rattle.std.specs.Char.{is_ascii_digit}
 use Rattle.std.specs.Cmp.Lexicographic.{pointwise}

@@ -3,7 +3,8 @@ ghost use Rattle.std.specs.Prelude.{◌≡◌, ◌≤◌, ◌<◌, length, optio
 ghost use Rattle.std.specs.List.{prefix_len, list_all};
 ghost use Rattle.std.specs.Char.{is_ascii_digit};
 ghost use Rattle.std.specs.Str.Parse.{AllDigits};
-ghost use Rattle.token_time.specs.Number.{digits_front, digits_part, whole_part, fraction_part, exponent_of, signed_exponent, exponent_part, unsigned_number, number_of};
+ghost use Rattle.token_time.specs.Number.{digits_front, digits_part, whole_part, fraction_part, exponent_of, signed_exponent, exponent_part, unsigned_number};
+ghost use Rattle.token_time.specs.Number.{number_of};
 ghost use Rattle.token_time.specs.Views.{exponent_value, number_value, HasDigits};
 
 use crate::decimal::capped_value;

@@ -54,8 +54,10 @@ partly_answered width a b c d text printed status answers (Some xs) (Some ys) wr
 pub shows_answer : (width a b c d : ℕ) (text printed : List ℕ) (status : Status) → Answers width text printed status
     → (left left' written written' : Option (List ℕ)) → Consumes left left' text × IsAtEnd left' → Appends written written' printed
     → Shows width (streams left a written b) (streams left' c written' d) status
-shows_answer width a b c d text printed Done answers left left' written written' read wrote = answered width a b c d text printed Done answers left left' written written' read wrote
-shows_answer width a b c d text printed Refused answers left left' written written' read wrote = answered width a b c d text printed Refused answers left left' written written' read wrote
+shows_answer width a b c d text printed Done answers left left' written written' read wrote =
+    answered width a b c d text printed Done answers left left' written written' read wrote
+shows_answer width a b c d text printed Refused answers left left' written written' read wrote =
+    answered width a b c d text printed Refused answers left left' written written' read wrote
 shows_answer width a b c d text printed Usage answers left left' written written' read wrote = absurd answers
 shows_answer width a b c d text printed SourceFailed answers left left' written written' read wrote = absurd answers
 shows_answer width a b c d text printed SinkFailed answers left left' written written' read wrote = absurd answers

@@ -17,7 +17,8 @@ receipt_list old receipt x opened is = ap (λ r. r.list) is ∙ ap (λ (l : List
 pub receipt_ends : (old receipt : NamedList) (x : PlainState) → receipt ≡ appended old x → EndsWith receipt.list x
 receipt_ends old receipt x is = (old.list, ap (λ r. r.list) is)
 
-pub receipt_revision : (old receipt : NamedList) (x : PlainState) → old.list ≡ opening 0 ∷ [] → receipt ≡ appended old x → last_revision receipt.list ≡ x.revision
+pub receipt_revision : (old receipt : NamedList) (x : PlainState) → old.list ≡ opening 0 ∷ [] → receipt ≡ appended old x
+    → last_revision receipt.list ≡ x.revision
 receipt_revision old receipt x opened is = ap last_revision (receipt_list old receipt x opened is)
 
 -- a reader that is told of it answers from there
@@ -35,19 +36,24 @@ OneState = (whole seen : List PlainState) (x y : PlainState) → IsHistory whole
     → y.revision ≡ x.revision → y ≡ x
 
 -- what the reader gives at the receipt's revision is the next state
-pub seen_is : OneState → (old receipt : NamedList) (x y : PlainState) (fresh : List PlainState) {told now : PlainReader} → old.list ≡ opening 0 ∷ [] → receipt ≡ appended old x
-    → fresh ≡ old.list → told.list ≡ longer fresh receipt.list → Renewed told now × EndsWith now.list y → IsHistory receipt.list → y.revision ≡ last_revision receipt.list → y ≡ x
+pub seen_is : OneState → (old receipt : NamedList) (x y : PlainState) (fresh : List PlainState) {told now : PlainReader} → old.list ≡ opening 0 ∷ []
+    → receipt ≡ appended old x
+    → fresh ≡ old.list → told.list ≡ longer fresh receipt.list → Renewed told now × EndsWith now.list y → IsHistory receipt.list
+    → y.revision ≡ last_revision receipt.list → y ≡ x
 seen_is law old receipt x y fresh {told = told} {now = now} opened is fresh_is told_is renewed history same =
-    law now.list receipt.list x y renewed.0.history history (begins_with_receipt old receipt x fresh told.list now.list opened is fresh_is told_is renewed.0.begins)
+    law now.list receipt.list x y renewed.0.history history (begins_with_receipt old receipt x fresh told.list now.list opened is fresh_is told_is
+    renewed.0.begins)
     (receipt_ends old receipt x is) renewed.1 (same ∙ receipt_revision old receipt x opened is)
 
 -- of two states of which each is the next one where it counts, either is it
-pub chosen_is : (seen latest y x : PlainState) (revision : ℕ) → ((seen.revision ≡ revision) × (y ≡ seen)) ⊎ ((seen.revision ≢ revision) × (y ≡ latest)) → (seen.revision ≡ revision → seen ≡ x) → latest ≡ x → y ≡ x
+pub chosen_is : (seen latest y x : PlainState) (revision : ℕ) → ((seen.revision ≡ revision) × (y ≡ seen)) ⊎ ((seen.revision ≢ revision) × (y ≡ latest))
+    → (seen.revision ≡ revision → seen ≡ x) → latest ≡ x → y ≡ x
 chosen_is seen latest y x revision (inl p) seen_is latest_is = p.1 ∙ seen_is p.0
 chosen_is seen latest y x revision (inr p) seen_is latest_is = p.1 ∙ latest_is
 
 -- the report of that state is the one of the update that the text writes, as revision 1
-pub is_reported : (width : ℕ) (text printed : List ℕ) (old : NamedList) (x y : PlainState) → old.list ≡ opening 0 ∷ [] → IsNextState (last_revision old.list) width text x
+pub is_reported : (width : ℕ) (text printed : List ℕ) (old : NamedList) (x y : PlainState) → old.list ≡ opening 0 ∷ []
+    → IsNextState (last_revision old.list) width text x
     → y ≡ x → printed ≡ report_of y.revision y.update → Answers width text printed Done
 is_reported width text printed old x y opened next same is =
     let next' : IsNextState 0 width text x = subst (λ (l : List PlainState). IsNextState (last_revision l) width text x) opened next in

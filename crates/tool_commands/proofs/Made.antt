@@ -1,5 +1,7 @@
 -- The update that `make` makes.
-use Rattle.std.proofs.Common.{◌≡◌, ℕ, ◌+◌, ◌-◌, ◌<◌, ◌≤◌, zero, suc, nat_lt, nat_eq, Bool, true, false, cond, ◌||◌, List, [], ◌∷◌, ◌++◌, Result, Ok, Err, IfOk, Some, None, length, map, codes, decimal, string_bytes, refl, sym, ap, ◌∙◌, subst, arith, append_assoc, append-nil, length-append, add-one}
+use Rattle.std.proofs.Common.{◌≡◌, ℕ, ◌+◌, ◌-◌, ◌<◌, ◌≤◌, zero, suc, nat_lt, nat_eq, Bool, true, false, cond, ◌||◌, List, [], ◌∷◌, ◌++◌, Result, Ok, Err, IfOk}
+use Rattle.std.proofs.Common.{Some, None, length, map, codes, decimal, string_bytes, refl, sym, ap, ◌∙◌, subst, arith, append_assoc, append-nil, length-append}
+use Rattle.std.proofs.Common.{add-one}
 use Rattle.std.specs.List.{repeat}
 use Rattle.std.specs.Io.KnownBytes.{Appends}
 use Rattle.base64ct.specs.declared.line_ending.LineEnding.TheVariants.{LF}
@@ -18,7 +20,8 @@ use Rattle.identity_update.specs.Parts.{Bundle, Entry, UpdateParts}
 use Rattle.identity_update.specs.PartsVerdict.{fits_check, key_sets_check, pairs_check, parts_verdict}
 use Rattle.identity_update.specs.Verdict.{members_check, purpose_check}
 use Rattle.identity_update.specs.declared.error.UpdateError.{UpdateError}
-use Rattle.tool_commands.specs.Made.{id_line, last_line, lines_of, made_bundle, made_domain, made_entries, made_entry, made_id, made_lines, made_update, update_lines}
+use Rattle.tool_commands.specs.Made.{id_line, last_line, lines_of, made_bundle, made_domain, made_entries, made_entry, made_id, made_lines, made_update}
+use Rattle.tool_commands.specs.Made.{update_lines}
 
 -- what is behind rules that hold is the value
 then_value : {A B E : Type 0} (r : Result A E) (f : A → Result B E) (b : B) (P : Type 0) → then_ok r f ≡ Ok b → ((a : A) → f a ≡ Ok b → P) → P
@@ -68,11 +71,13 @@ many zero = refl
 many (suc n) = omega (arith, length-append (made_entries n) (made_entry n ∷ []), many n)
 
 -- the lines of the update that was made
-pub lines_made : (n : ℕ) → 1 ≤ n → (text : ℕ) → update_lines (made_update n) text ≡ lines_of n (length (update_der (made_update n))) text (id_line (made_id (n - 1)))
+pub lines_made : (n : ℕ) → 1 ≤ n → (text : ℕ) → update_lines (made_update n) text
+    ≡ lines_of n (length (update_der (made_update n))) text (id_line (made_id (n - 1)))
 lines_made zero some text = absurd (omega (arith, some))
 lines_made (suc n) some text =
     ap (λ k. lines_of k (length (update_der (made_update (suc n)))) text (last_line (made_entries (suc n)))) (many (suc n))
-    ∙ ap (λ l. lines_of (suc n) (length (update_der (made_update (suc n)))) text l) (last_snoc (made_entries n) (made_entry n) ∙ ap (λ k. id_line (made_id k)) (omega arith))
+    ∙ ap (λ l. lines_of (suc n) (length (update_der (made_update (suc n)))) text l)
+    (last_snoc (made_entries n) (made_entry n) ∙ ap (λ k. id_line (made_id k)) (omega arith))
 
 abbrev value_of : Result (List ℕ) SpiffeIdError → List ℕ
 value_of (Ok domain) = domain
@@ -83,18 +88,22 @@ pub domain_is : (domain : List ℕ) → trust_domain_of (codes "example.org") �
 unfolding trust_domain_of written_trust_domain
 domain_is domain e = sym (ap value_of e)
 
-pub id_is : (domain : List ℕ) (segments : List (List ℕ)) (id : Id) (n : ℕ) → id_from domain segments ≡ Ok id → domain ≡ made_domain → segments ≡ codes "w" ∷ decimal n ∷ [] → id ≡ made_id n
+pub id_is : (domain : List ℕ) (segments : List (List ℕ)) (id : Id) (n : ℕ) → id_from domain segments ≡ Ok id → domain ≡ made_domain
+    → segments ≡ codes "w" ∷ decimal n ∷ [] → id ≡ made_id n
 id_is domain segments id n e known are =
-    id_gives domain segments id e ∙ (ap (λ d. id_of_path d (joined segments)) known ∙ (ap (λ l. id_of_path made_domain (joined l)) are ∙ ap (λ l. id_of_path made_domain (codes "/w/" ++ l)) (append-nil (decimal n))))
+    id_gives domain segments id e ∙ (ap (λ d. id_of_path d (joined segments)) known
+    ∙ (ap (λ l. id_of_path made_domain (joined l)) are ∙ ap (λ l. id_of_path made_domain (codes "/w/" ++ l)) (append-nil (decimal n))))
 
 abbrev with_parts : List Entry → List Bundle → UpdateParts
 with_parts entries bundles = record { entries = entries; bundles = bundles; reason = None }
 
-pub update_is : (entries : List EntryParts) (bundles : List BundleParts) (bundle : BundleParts) (u : UpdateParts) (n : ℕ) → parts_verdict (listed entries bundles) ≡ Ok u → map plain_entry entries ≡ made_entries n
+pub update_is : (entries : List EntryParts) (bundles : List BundleParts) (bundle : BundleParts) (u : UpdateParts) (n : ℕ)
+    → parts_verdict (listed entries bundles) ≡ Ok u → map plain_entry entries ≡ made_entries n
     → bundles ≡ bundle ∷ [] → plain_bundle bundle ≡ made_bundle → u ≡ made_update n
 update_is entries bundles bundle u n e made one known =
     verdict_gives (listed entries bundles) u e
-    ∙ (ap (λ (es : List Entry). with_parts es (map plain_bundle bundles)) made ∙ (ap (λ l. with_parts (made_entries n) (map plain_bundle l)) one ∙ ap (λ (b : Bundle). with_parts (made_entries n) (b ∷ [])) known))
+    ∙ (ap (λ (es : List Entry). with_parts es (map plain_bundle bundles)) made
+    ∙ (ap (λ l. with_parts (made_entries n) (map plain_bundle l)) one ∙ ap (λ (b : Bundle). with_parts (made_entries n) (b ∷ [])) known))
 
 -- the line of the last of some entries, behind an entry of this id
 abbrev pub last_of : Option Id → List Entry → List ℕ

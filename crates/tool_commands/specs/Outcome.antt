@@ -27,7 +27,8 @@ Answered width before now status =
 -- a first part of the answer was written
 abbrev pub PartlyAnswered : ℕ → Streams → Streams → Type 0
 PartlyAnswered width before now =
-    IfSome before.left (λ text. (printed : List ℕ) × (Answers width text printed Done ⊎ Answers width text printed Refused) × AppendsPrefix before.written now.written printed)
+    IfSome before.left (λ text. (printed : List ℕ) × (Answers width text printed Done ⊎ Answers width text printed Refused)
+    × AppendsPrefix before.written now.written printed)
 
 -- what `show` at this width has done, by its status
 abbrev pub Shows : ℕ → Streams → Streams → Status → Type 0

@@ -7,9 +7,9 @@ ghost use Rattle.command_line.specs.declared.status.Status.{Status};
 
 use crate::report_lines::report_text;
 use command_line::Status;
-use refusal_lines::refusal_text;
 use identity_io::{LIMIT, Sink, Source, read_all, write_all};
 use identity_source::{Update, UpdateError};
+use refusal_lines::refusal_text;
 use std::alloc::{AllocError, Global};
 
 /// What is printed of a text, and the status that goes with it.

@@ -1,4 +1,5 @@
-//! The commands of `identity_tool` over any source and any sink: an update text is read to its end and answered by its report, or by the line of the first rule that it breaks.
+//! The commands of `identity_tool` over any source and any sink: an update text is read to its end and answered by its
+//! report, or by the line of the first rule that it breaks.
 //!
 //! ```text
 //! let mut input = SureSource::new(b"MAowADAAgARnb25l");

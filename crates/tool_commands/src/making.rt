@@ -4,8 +4,8 @@ ghost use Rattle.tool_commands.specs.Made.{Makes, last_line, made_lines, made_up
 ghost use Rattle.command_line.specs.Outcome.{IsUntouched};
 
 use crate::made_entries::{bundle, entries};
-use command_line::Status;
 use base64ct::LineEnding;
+use command_line::Status;
 use identity_io::{Sink, write_all};
 use identity_source::{Entries, Update};
 use identity_update::laws::text_has_one_reading;

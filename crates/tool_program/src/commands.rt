@@ -8,13 +8,13 @@ ghost use Rattle.tool_program.specs.declared.words.Command.{Command};
 
 use crate::words::{Command, read_words};
 use command_line::Status;
-use tool_commands::{make, show};
 use identity_io::{LIMIT, Sink, Source};
-use tool_script::session;
-use tool_watch::{OpenGate, watch};
 use std::alloc::Global;
 use std::sync::Wait;
 use std::thread::Threads;
+use tool_commands::{make, show};
+use tool_script::session;
+use tool_watch::{OpenGate, watch};
 
 /// Does what the words after the program's name say, and answers how it ended. A command may wait for threads of its own.
 pub fn run<R: Threads + Wait + Sync, S: Source, K: Sink>(

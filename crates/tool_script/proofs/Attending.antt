@@ -1,5 +1,6 @@
 -- A reader that is told of all that its source does.
-use Rattle.std.proofs.Common.{◌≡◌, ◌≢◌, ℕ, ◌+◌, ◌<◌, ◌≤◌, ◌⊎◌, inl, inr, Bool, true, false, cond, nat_le, List, [], ◌∷◌, ◌++◌, length, length-append, refl, sym, ap, ◌∙◌, subst, ⊎_elim, arith, Result, Ok, Err, IfOk}
+use Rattle.std.proofs.Common.{◌≡◌, ◌≢◌, ℕ, ◌+◌, ◌<◌, ◌≤◌, ◌⊎◌, inl, inr, Bool, true, false, cond, nat_le, List, [], ◌∷◌, ◌++◌, length, length-append, refl}
+use Rattle.std.proofs.Common.{sym, ap, ◌∙◌, subst, ⊎_elim, arith, Result, Ok, Err, IfOk}
 use Rattle.std.proofs.lemmas.Bool.Decides.{leb_tells}
 use Rattle.identity_source.specs.State.{PlainState, opening}
 use Rattle.identity_source.specs.History.{IsHistory, StartsWith, EndsWith, first_revision, last_revision}
@@ -30,12 +31,14 @@ fresh_attends source reader opened fresh =
 longer_place : (xs ys : List PlainState) → StartsWith (longer xs ys) ys ⊎ (length ys < length (longer xs ys))
 longer_place xs ys =
     ⊎_elim
-    (λ (t : (nat_le (length xs) (length ys) ≡ true) × (length xs ≤ length ys)). inl (subst (λ (b : Bool). StartsWith (cond b ys xs) ys) (sym t.0) (begins_self ys)))
+    (λ (t : (nat_le (length xs) (length ys) ≡ true) × (length xs ≤ length ys)). inl
+    (subst (λ (b : Bool). StartsWith (cond b ys xs) ys) (sym t.0) (begins_self ys)))
     (λ (t : (nat_le (length xs) (length ys) ≡ false) × (length ys < length xs)). inr (subst (λ (b : Bool). length ys < length (cond b ys xs)) (sym t.0) t.1))
     (leb_tells (length xs) (length ys))
 
 -- a reader that was told of the source's whole list
-pub told_attends : (old new : NamedList) (before now : PlainReader) → Attends old before → new.name ≡ old.name → StartsWith new.list old.list → IsHistory new.list
+pub told_attends : (old new : NamedList) (before now : PlainReader) → Attends old before → new.name ≡ old.name → StartsWith new.list old.list
+    → IsHistory new.list
     → Told before now new.list → Attends new now
 told_attends old new before now a name begins history told =
     let first : first_revision new.list ≡ 0 = first_begins new.list old.list begins a.history ∙ a.first in
@@ -73,7 +76,8 @@ OneState = (whole seen : List PlainState) (x y : PlainState) → IsHistory whole
     → y.revision ≡ x.revision → y ≡ x
 
 -- at the source's revision it gives the source's last state
-one_state : OneState → (source : NamedList) (reader : PlainReader) (seen latest : PlainState) → Attends source reader → EndsWith reader.list seen → EndsWith source.list latest
+one_state : OneState → (source : NamedList) (reader : PlainReader) (seen latest : PlainState) → Attends source reader → EndsWith reader.list seen
+    → EndsWith source.list latest
     → seen.revision ≡ latest.revision → seen ≡ latest
 one_state law source reader seen latest a ends_seen ends_latest same =
     ⊎_elim
@@ -85,25 +89,31 @@ one_state law source reader seen latest a ends_seen ends_latest same =
     a.place
 
 -- what is chosen of both is the source's last state
-chosen_ends : OneState → (source : NamedList) (reader : PlainReader) (seen latest y : PlainState) (revision : ℕ) → Attends source reader → EndsWith reader.list seen → EndsWith source.list latest
+chosen_ends : OneState → (source : NamedList) (reader : PlainReader) (seen latest y : PlainState) (revision : ℕ) → Attends source reader
+    → EndsWith reader.list seen → EndsWith source.list latest
     → revision ≡ latest.revision → ((seen.revision ≡ revision) × (y ≡ seen)) ⊎ ((seen.revision ≢ revision) × (y ≡ latest)) → EndsWith source.list y
 chosen_ends law source reader seen latest y revision a ends_seen ends_latest at (inl p) =
     subst (λ (x : PlainState). EndsWith source.list x) (sym (p.1 ∙ one_state law source reader seen latest a ends_seen ends_latest (p.0 ∙ at))) ends_latest
-chosen_ends law source reader seen latest y revision a ends_seen ends_latest at (inr p) = subst (λ (x : PlainState). EndsWith source.list x) (sym p.1) ends_latest
+chosen_ends law source reader seen latest y revision a ends_seen ends_latest at (inr p) =
+    subst (λ (x : PlainState). EndsWith source.list x) (sym p.1) ends_latest
 
-pub last_ends : OneState → (source : NamedList) (before : PlainReader) {now : PlainReader} (seen latest y : PlainState) (revision : ℕ) → Attends source before → Renewed before now × EndsWith now.list seen
-    → EndsWith source.list latest → revision ≡ latest.revision → ((seen.revision ≡ revision) × (y ≡ seen)) ⊎ ((seen.revision ≢ revision) × (y ≡ latest)) → EndsWith source.list y
+pub last_ends : OneState → (source : NamedList) (before : PlainReader) {now : PlainReader} (seen latest y : PlainState) (revision : ℕ)
+    → Attends source before → Renewed before now × EndsWith now.list seen
+    → EndsWith source.list latest → revision ≡ latest.revision → ((seen.revision ≡ revision) × (y ≡ seen)) ⊎ ((seen.revision ≢ revision) × (y ≡ latest))
+    → EndsWith source.list y
 last_ends law source before {now = now} seen latest y revision a looked ends_latest at chosen =
     chosen_ends law source now seen latest y revision (looked_attends source before now a looked.0) looked.1 ends_latest at chosen
 
 -- an update is applied, and the reader is told
-pub published_attends : (old new receipt : NamedList) (before now : PlainReader) (width : ℕ) (text : List ℕ) → Attends old before → Publishes old new width text → receipt ≡ new → new.name ≡ old.name
+pub published_attends : (old new receipt : NamedList) (before now : PlainReader) (width : ℕ) (text : List ℕ) → Attends old before
+    → Publishes old new width text → receipt ≡ new → new.name ≡ old.name
     → IsHistory receipt.list → Told before now receipt.list → Attends new now
 published_attends old new receipt before now width text a p is name history told =
     told_attends old new before now a name (published_begins old new p.state p.list) (subst (λ (r : NamedList). IsHistory r.list) is history)
     (subst (λ (r : NamedList). Told before now r.list) is told)
 
-pub accepted : (old new receipt : NamedList) (width : ℕ) (text reply : List ℕ) (revision : ℕ) → Publishes old new width text → receipt ≡ new → revision ≡ last_revision receipt.list
+pub accepted : (old new receipt : NamedList) (width : ℕ) (text reply : List ℕ) (revision : ℕ) → Publishes old new width text → receipt ≡ new
+    → revision ≡ last_revision receipt.list
     → reply ≡ accepted_reply revision → Accepts width old.list text new.list reply
 accepted old new receipt width text reply revision p is at says =
     let list : new.list ≡ old.list ++ p.state ∷ [] = ap (λ s. s.list) p.list in

@@ -1,5 +1,6 @@
 -- A script has one reading.
-use Rattle.std.proofs.Common.{◌≡◌, ℕ, ◌+◌, ◌%◌, ◌<◌, ◌≤◌, ◌^◌, suc, List, [], ◌∷◌, ◌++◌, length, take, drop, get_or, codes, decimal, flat_map, All, refl, sym, ◌∙◌, ap, subst, inl, inr, arith, append_assoc, length-append, Result, Ok, Err}
+use Rattle.std.proofs.Common.{◌≡◌, ℕ, ◌+◌, ◌%◌, ◌<◌, ◌≤◌, ◌^◌, suc, List, [], ◌∷◌, ◌++◌, length, take, drop, get_or, codes, decimal, flat_map, All, refl, sym}
+use Rattle.std.proofs.Common.{◌∙◌, ap, subst, inl, inr, arith, append_assoc, length-append, Result, Ok, Err}
 use Rattle.std.proofs.lemmas.List.{get_or-take, length-take, append-nil}
 use Rattle.std.proofs.lemmas.List.Elements.{All-head, All-tail}
 use Rattle.std.proofs.lemmas.Fmt.{decimal_by_steps, decimal_injective, length-decimal-le}
@@ -31,7 +32,8 @@ clean_from [] f = tt
 clean_from (x ∷ xs) f = (f 0 (omega arith), clean_from xs (λ k low. f (suc k) (omega arith)))
 
 clean_decimal : (n : ℕ) → n < 2 ^ 64 → Clean (decimal n)
-clean_decimal n small = decimal_by_steps (λ n ds. Clean ds) (λ n low. (λ e. omega arith, tt)) (λ n ds low h. clean_append ds ((48 + n % 10) ∷ []) h (λ e. omega arith, tt)) n small
+clean_decimal n small = decimal_by_steps (λ n ds. Clean ds) (λ n low. (λ e. omega arith, tt))
+    (λ n ds low h. clean_append ds ((48 + n % 10) ∷ []) h (λ e. omega arith, tt)) n small
 
 -- a list is cut at its first line's end in one way
 cut_once : (xs ys us vs : List ℕ) → Clean xs → Clean ys → xs ++ 10 ∷ us ≡ ys ++ 10 ∷ vs → (xs ≡ ys) × (us ≡ vs)
@@ -119,11 +121,13 @@ same_request (Bundle name domain) (Bundle other place) us vs p s l b =
 -- the first request is one
 spelled_once : (q r : PlainRequest) (us vs : List ℕ) → IsRequest q → IsRequest r → spelled q ++ us ≡ spelled r ++ vs → (q ≡ r) × (us ≡ vs)
 spelled_once q r us vs p s e =
-    let h = cut_once (first_line q) (first_line r) (behind q us) (behind r vs) (clean_line q p) (clean_line r s) (sym (spelled_behind q us) ∙ e ∙ spelled_behind r vs) in
+    let h = cut_once (first_line q) (first_line r) (behind q us) (behind r vs) (clean_line q p) (clean_line r s)
+    (sym (spelled_behind q us) ∙ e ∙ spelled_behind r vs) in
     same_request q r us vs p s h.0 h.1
 
 -- a line that stands before the script's rest is the request's
-line_first : (bytes : List ℕ) (n : ℕ) (h : Line) (q : PlainRequest) (more : List ℕ) → IsRequest q → bytes ≡ spelled q ++ more → Starts bytes n h → (take n bytes ≡ first_line q) × (drop (n + 1) bytes ≡ behind q more)
+line_first : (bytes : List ℕ) (n : ℕ) (h : Line) (q : PlainRequest) (more : List ℕ) → IsRequest q → bytes ≡ spelled q ++ more → Starts bytes n h
+    → (take n bytes ≡ first_line q) × (drop (n + 1) bytes ≡ behind q more)
 line_first bytes n h q more p e s =
     let clean : Clean (take n bytes) = clean_from (take n bytes) (λ k low ten.
     let within : k < n = omega (arith, length-take n bytes) in
@@ -137,7 +141,8 @@ not_end (Update text) e = let f : 101 ≡ 117 = ap (λ x. get_or x 0 0) e in ome
 not_end Svid e = let f : 101 ≡ 115 = ap (λ x. get_or x 0 0) e in omega (arith, f)
 not_end (Bundle name domain) e = let f : 101 ≡ 98 = ap (λ x. get_or x 0 0) e in omega (arith, f)
 
-not_over : (q : PlainRequest) (size most : ℕ) → IsRequest q → text_size q ≤ most → size < 2 ^ 64 → codes "update " ++ decimal size ≡ first_line q → most < size → ⊥
+not_over : (q : PlainRequest) (size most : ℕ) → IsRequest q → text_size q ≤ most → size < 2 ^ 64 → codes "update " ++ decimal size ≡ first_line q
+    → most < size → ⊥
 not_over (Update text) size most p fits small e over = let same : size ≡ length text = one_size size (length text) small (omega arith) e in omega arith
 not_over Svid size most p fits small e over = update_svid (decimal size) e
 not_over (Bundle name domain) size most p fits small e over = update_bundle (decimal size) name e
@@ -147,20 +152,30 @@ not_other (Update text) line p e other = other.1 (form.Update (length text)) (e,
 not_other Svid line p e other = other.1 form.Svid e
 not_other (Bundle name domain) line p e other = other.1 (form.Bundle domain) (name, e, p.0)
 
-not_cut : (q : PlainRequest) (size : ℕ) (rest more : List ℕ) → IsRequest q → size < 2 ^ 64 → codes "update " ++ decimal size ≡ first_line q → rest ≡ behind q more → HasBlock size rest
+not_cut : (q : PlainRequest) (size : ℕ) (rest more : List ℕ) → IsRequest q → size < 2 ^ 64 → codes "update " ++ decimal size ≡ first_line q
+    → rest ≡ behind q more → HasBlock size rest
 not_cut (Update text) size rest more p small e b =
-    let same : size ≡ length text = one_size size (length text) small (omega arith) e in
-    (omega (arith, ap length b, length-append text (10 ∷ more)), ap (λ i. get_or rest i 0) same ∙ ap (λ x. get_or x (length text) 0) b ∙ get_or-append_seam text 10 more 0)
+    let same : size ≡ length text = one_size size (length text) small (omega arith) e in (
+      omega (arith, ap length b, length-append text (10 ∷ more)),
+      ap (λ i. get_or rest i 0) same ∙ ap (λ x. get_or x (length text) 0) b
+          ∙ get_or-append_seam text 10 more 0,
+    )
 not_cut Svid size rest more p small e b = absurd (update_svid (decimal size) e)
 not_cut (Bundle name domain) size rest more p small e b = absurd (update_bundle (decimal size) name e)
 
 short_line : (q : PlainRequest) → IsRequest q → length (first_line q) < 4097
-short_line (Update text) p = omega (arith, length-append (codes "update ") (decimal (length text)), length-decimal-le 20 (length text) (omega arith) (omega arith) (omega arith))
+short_line (Update text) p = omega (
+  arith,
+  length-append (codes "update ") (decimal (length text)),
+  length-decimal-le 20 (length text) (omega arith)
+      (omega arith) (omega arith),
+)
 short_line Svid p = omega arith
 short_line (Bundle name domain) p = omega (arith, p.2, length-append (codes "bundle ") name)
 
 -- no script ends where a whole request stands
-goes_on : (count most : ℕ) (bytes : List ℕ) (e : Ending) (q : PlainRequest) (more : List ℕ) → IsRequest q → count < 10000 → text_size q ≤ most → bytes ≡ spelled q ++ more → EndsAs count most bytes e → ⊥
+goes_on : (count most : ℕ) (bytes : List ℕ) (e : Ending) (q : PlainRequest) (more : List ℕ) → IsRequest q → count < 10000 → text_size q ≤ most
+    → bytes ≡ spelled q ++ more → EndsAs count most bytes e → ⊥
 goes_on count most bytes Done q more p few fits is (n, s) = not_end q (sym s.is ∙ (line_first bytes n says.End q more p is s).0)
 goes_on count most bytes TooLong q more p few fits is (inl (many, other)) = omega arith
 goes_on count most bytes TooLong q more p few fits is (inr (size, (n, s), over)) =
@@ -175,8 +190,10 @@ goes_on count most bytes BadScript q more p few fits is (inr (inr cut)) =
     cut.missing (not_cut q cut.size (drop (cut.n + 1) bytes) more p cut.starts.is.1 (sym cut.starts.is.0 ∙ h.0) h.1)
 
 -- whole requests ps at the front of a script are the first ones of its requests rs, where both stand behind the same requests
-front_first : (room : List PlainRequest → ℕ) (all before ps rs : List PlainRequest) (us rest : List ℕ) (e : Ending) → all ≡ before ++ rs → flat_map spelled ps ++ us ≡ flat_map spelled rs ++ rest
-    → All IsRequest ps → All IsRequest rs → length before + length ps ≤ 10000 → HaveRoom room before ps → EndsAs (length all) (room all) rest e → (more : List PlainRequest) × (rs ≡ ps ++ more)
+front_first : (room : List PlainRequest → ℕ) (all before ps rs : List PlainRequest) (us rest : List ℕ) (e : Ending) → all ≡ before ++ rs
+    → flat_map spelled ps ++ us ≡ flat_map spelled rs ++ rest
+    → All IsRequest ps → All IsRequest rs → length before + length ps ≤ 10000 → HaveRoom room before ps → EndsAs (length all) (room all) rest e
+    → (more : List PlainRequest) × (rs ≡ ps ++ more)
 front_first room all before [] rs us rest e whole is lawful law few fit ends = (rs, refl)
 front_first room all before (p ∷ ps) [] us rest e whole is lawful law few fit ends =
     let same : all ≡ before = whole ∙ append-nil before in
@@ -192,7 +209,8 @@ front_first room all before (p ∷ ps) (r ∷ rs) us rest e whole is lawful law 
 
 pub lead_the_requests : LeadTheRequests
 lead_the_requests room bytes first requests e p s =
-    front_first room requests [] first requests p.rest s.front.rest e refl (sym p.whole ∙ s.front.whole) p.lawful s.front.lawful (omega (arith, p.few)) p.fit s.ends
+    front_first room requests [] first requests p.rest s.front.rest e refl (sym p.whole ∙ s.front.whole) p.lawful s.front.lawful (omega (arith, p.few))
+    p.fit s.ends
 
 -- one line says one thing
 forms_once : (line : List ℕ) (f g : Form) → Tells line f → Tells line g → f ≡ g
@@ -246,7 +264,8 @@ done_alone count most bytes TooLong (m, p) (inl (many, (f, (n, q)))) = absurd (c
 done_alone count most bytes TooLong (m, p) (inr (size, (n, q), over)) = absurd (cc (starts_once bytes m n says.End (says.Request (form.Update size)) p q))
 done_alone count most bytes BadScript (m, p) (inl none) = absurd (no_line bytes m says.End none p)
 done_alone count most bytes BadScript (m, p) (inr (inl (n, q))) = absurd (cc (starts_once bytes m n says.End says.Other p q))
-done_alone count most bytes BadScript (m, p) (inr (inr cut)) = absurd (cc (starts_once bytes m cut.n says.End (says.Request (form.Update cut.size)) p cut.starts))
+done_alone count most bytes BadScript (m, p) (inr (inr cut)) =
+    absurd (cc (starts_once bytes m cut.n says.End (says.Request (form.Update cut.size)) p cut.starts))
 
 long_alone : (count most : ℕ) (bytes : List ℕ) → EndsAs count most bytes TooLong → EndsAs count most bytes BadScript → TooLong ≡ BadScript
 long_alone count most bytes (inl (many, (f, (m, p)))) (inl none) = absurd (no_line bytes m (says.Request f) none p)
@@ -255,7 +274,8 @@ long_alone count most bytes (inl (many, (f, (m, p)))) (inr (inr cut)) = absurd (
 long_alone count most bytes (inr (size, (m, p), over)) (inl none) = absurd (no_line bytes m (says.Request (form.Update size)) none p)
 long_alone count most bytes (inr (size, (m, p), over)) (inr (inl (n, q))) = absurd (cc (starts_once bytes m n (says.Request (form.Update size)) says.Other p q))
 long_alone count most bytes (inr (size, (m, p), over)) (inr (inr cut)) =
-    let sizes : size ≡ cut.size = ap update_size (starts_once bytes m cut.n (says.Request (form.Update size)) (says.Request (form.Update cut.size)) p cut.starts) in
+    let sizes : size ≡ cut.size = ap update_size (starts_once bytes m cut.n (says.Request (form.Update size)) (says.Request (form.Update cut.size)) p
+    cut.starts) in
     absurd (omega (arith, cut.small))
 
 -- the rest of a script has one ending
@@ -277,7 +297,11 @@ have_one_reading room bytes rs others e f p q =
     let there = lead_the_requests room bytes rs others f p.front q in
     let back = lead_the_requests room bytes others rs e q.front p in
     let same : rs ≡ others = nothing_more rs others there.0 there.1 (omega (arith, ap length back.1, length-append others back.0)) in
-    let rests : flat_map spelled rs ++ q.front.rest ≡ flat_map spelled rs ++ p.front.rest = ap (λ l. flat_map spelled l ++ q.front.rest) same ∙ sym q.front.whole ∙ p.front.whole in
+    let rests : flat_map spelled rs ++ q.front.rest ≡ flat_map spelled rs ++ p.front.rest = ap (λ l. flat_map spelled l ++ q.front.rest) same
+    ∙ sym q.front.whole ∙ p.front.whole in
     let rest : q.front.rest ≡ p.front.rest = (pieces_once (flat_map spelled rs) (flat_map spelled rs) q.front.rest p.front.rest refl rests).1 in
-    let ends : EndsAs (length others) (room others) p.front.rest f = subst (λ (l : List ℕ). EndsAs (length others) (room others) l f) rest q.ends in
-    (same, ends_once (length rs) (room rs) p.front.rest e f p.ends (subst (λ (l : List PlainRequest). EndsAs (length l) (room l) p.front.rest f) (sym same) ends))
+    let ends : EndsAs (length others) (room others) p.front.rest f = subst (λ (l : List ℕ). EndsAs (length others) (room others) l f) rest q.ends in (
+      same,
+      ends_once (length rs) (room rs) p.front.rest e f p.ends
+          (subst (λ (l : List PlainRequest). EndsAs (length l) (room l) p.front.rest f) (sym same) ends),
+    )

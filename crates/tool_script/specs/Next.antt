@@ -18,6 +18,7 @@ meaning name (code.Bundle domain) = Bundle name domain
 
 -- behind so many requests, and where the next update may have so many bytes, a request was taken, or the script ends so
 abbrev pub IsNext : ℕ → ℕ → Option (List ℕ) → Option (List ℕ) → Next → Type 0
-IsNext count most old new (next.Request request) = (name : List ℕ) × Consumes old new (spelled (meaning name request)) × IsRequest (meaning name request) × (count < 10000)
+IsNext count most old new (next.Request request) = (name : List ℕ) × Consumes old new (spelled (meaning name request)) × IsRequest (meaning name request)
+    × (count < 10000)
     × (text_size (meaning name request) ≤ most)
 IsNext count most old new (next.End ending) = IfSome old (λ bytes. EndsAs count most bytes ending)

@@ -19,15 +19,18 @@ use Rattle.tool_script.specs.declared.request.Ending.TheVariants as ending
 
 -- the replies to these requests, by a source that opened at revision 0, were written and nothing else
 abbrev pub WroteReplies : ℕ → List PlainRequest → Option (List ℕ) → Option (List ℕ) → Type 0
-WroteReplies width requests written written' = (accepted : List PlainState) × ((text : List ℕ) × (AreReplies width (opening 0 ∷ []) requests accepted text × Appends written written' text))
+WroteReplies width requests written written' = (accepted : List PlainState)
+    × ((text : List ℕ) × (AreReplies width (opening 0 ∷ []) requests accepted text × Appends written written' text))
 
 -- a first part of them was written
 abbrev pub WroteFirst : ℕ → List PlainRequest → Option (List ℕ) → Option (List ℕ) → Type 0
-WroteFirst width requests written written' = (accepted : List PlainState) × ((text : List ℕ) × (AreReplies width (opening 0 ∷ []) requests accepted text × AppendsPrefix written written' text))
+WroteFirst width requests written written' = (accepted : List PlainState)
+    × ((text : List ℕ) × (AreReplies width (opening 0 ∷ []) requests accepted text × AppendsPrefix written written' text))
 
 -- the input is a script with this ending, and the replies to its whole requests were written
 abbrev pub Served : ℕ → Streams → Streams → Ending → Type 0
-Served width before now e = IfSome before.left (λ bytes. (requests : List PlainRequest) × (Script bytes requests e × WroteReplies width requests before.written now.written))
+Served width before now e = IfSome before.left (λ bytes. (requests : List PlainRequest)
+    × (Script bytes requests e × WroteReplies width requests before.written now.written))
 
 -- the bytes that were taken are a script that stops short, and the replies to its whole requests were written
 abbrev pub ServedTaken : ℕ → Streams → Streams → Type 0
@@ -36,7 +39,8 @@ ServedTaken width before now = (taken : List ℕ) × (Consumes before.left now.l
 
 -- a first part of the replies to whole requests at the front of the input was written
 abbrev pub ServedFirst : ℕ → Streams → Streams → Type 0
-ServedFirst width before now = IfSome before.left (λ bytes. (requests : List PlainRequest) × (Front bytes requests × WroteFirst width requests before.written now.written))
+ServedFirst width before now = IfSome before.left (λ bytes. (requests : List PlainRequest)
+    × (Front bytes requests × WroteFirst width requests before.written now.written))
 
 -- what a session at this width has done, by its status
 abbrev pub Serves : ℕ → Streams → Streams → Status → Type 0

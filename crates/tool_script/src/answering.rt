@@ -7,12 +7,12 @@ ghost use Rattle.tool_script.specs.Session.{Attends};
 
 use crate::reply::{accepted_text, bundle_text, svid_text};
 use crate::request::Request;
-use refusal_lines::refusal_text;
-use tool_commands::chosen;
 use identity_source::laws::states_are_told_by_revision;
 use identity_source::{IdentityReader, IdentitySource, Snapshot};
+use refusal_lines::refusal_text;
 use std::alloc::{AllocError, Global};
 use std::sync::Wait;
+use tool_commands::chosen;
 
 // Applies the update, and tells the reader of it.
 fn applied<R: Wait>(
@@ -24,7 +24,8 @@ fn applied<R: Wait>(
     reader: &mut IdentityReader,
 ) -> Result<Vec<u8>, AllocError>
     requires { Attends source.old reader.old }
-    ensures reply { IfOk result (λ reply. Accepts width source.old.list text.now source.new.list reply.items ⊎ Refuses width source.old.list text.now source.new.list reply.items) }
+    ensures reply { IfOk result (λ reply. Accepts width source.old.list text.now source.new.list reply.items
+        ⊎ Refuses width source.old.list text.now source.new.list reply.items) }
     ensures attends { OnOk result (Attends source.new reader.new) }
 {
     match source.apply(rt, text, width) {

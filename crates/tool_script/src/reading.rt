@@ -148,7 +148,8 @@ fn take_request<S: Source>(
     }
 }
 
-/// The next request of a script, or how the script ends, behind so many requests and where the next update may have so many bytes. After `Failed` no whole request stands ahead.
+/// The next request of a script, or how the script ends, behind so many requests and where the next update may have so
+/// many bytes. After `Failed` no whole request stands ahead.
 pub fn next_request<S: Source>(
     alloc: Global,
     ahead: &mut Ahead,

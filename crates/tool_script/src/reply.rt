@@ -3,12 +3,12 @@ ghost use Rattle.std.specs.Prelude.{◌≡◌, ◌++◌, IfOk, OnOk, option_map}
 ghost use Rattle.std.specs.Arc.{arc_value};
 ghost use Rattle.tool_script.specs.Reply.{accepted_reply, bundle_reply, keys_words, standing, svid_reply};
 
-use tool_commands::{push_bundle_words, push_printed};
 use identity_source::{Identity, Snapshot};
 use spiffe_bundle::JwtBundle;
 use spiffe_id::TrustDomain;
 use std::alloc::{AllocError, Global};
 use std::sync::Arc;
+use tool_commands::{push_bundle_words, push_printed};
 
 /// The reply to an update that was applied as this revision.
 pub fn accepted_text(alloc: Global, revision: u64) -> Result<Vec<u8>, AllocError>

@@ -12,7 +12,8 @@ use Rattle.tool_watch.specs.Asked.{IsScript, IsUnread}
 use Rattle.tool_watch.specs.Watching.{EndsWell, Watches}
 
 -- the script was not read to a good end, and nothing was written
-pub unread_watches : (width workers : ℕ) (before now : Streams) (s : Status) → IsUnread before.left before.read_faults now.read_faults s → now.written ≡ before.written → Watches width workers before now s
+pub unread_watches : (width workers : ℕ) (before now : Streams) (s : Status) → IsUnread before.left before.read_faults now.read_faults s
+    → now.written ≡ before.written → Watches width workers before now s
 unread_watches width workers before now status.Done p same = absurd p
 unread_watches width workers before now status.Refused p same = p
 unread_watches width workers before now status.Usage p same = p
@@ -24,11 +25,13 @@ unread_watches width workers before now status.BadScript p same = (p, same)
 
 other_ending : HaveOneReading → (left : Option (List ℕ)) (e : Ending) → IsScript left e → EndsWell left → e ≡ Done
 other_ending law left e is (bytes, (told, (requests, script))) =
-    let found : (others : List PlainRequest) × WatchScript bytes others e = subst (λ (l : Option (List ℕ)). IfSome l (λ bytes. (others : List PlainRequest) × WatchScript bytes others e)) told is in
+    let found : (others : List PlainRequest) × WatchScript bytes others e =
+    subst (λ (l : Option (List ℕ)). IfSome l (λ bytes. (others : List PlainRequest) × WatchScript bytes others e)) told is in
     (law joint_room bytes found.0 requests e Done found.1 script).1
 
 -- over a script that ends well, and where no fault came
-pub ends_well : HaveOneReading → (width workers : ℕ) (before now : Streams) (s : Status) → Watches width workers before now s → Calm before.read_faults now.read_faults → Calm before.write_faults now.write_faults
+pub ends_well : HaveOneReading → (width workers : ℕ) (before now : Streams) (s : Status) → Watches width workers before now s
+    → Calm before.read_faults now.read_faults → Calm before.write_faults now.write_faults
     → EndsWell before.left → (s ≡ status.Done) ⊎ (s ≡ status.OutOfMemory)
 ends_well law width workers before now status.Done p reads writes well = inl refl
 ends_well law width workers before now status.Refused p reads writes well = absurd p

@@ -1,5 +1,6 @@
 -- Lists of states whose revisions count from 0, and what applying does to them.
-use Rattle.std.proofs.Common.{◌≡◌, ℕ, zero, suc, ◌+◌, ◌<◌, ◌≤◌, ◌⊎◌, inl, inr, List, length, [], ◌∷◌, ◌++◌, get_or, cond, Result, Ok, Err, refl, sym, ◌∙◌, ap, subst, arith, append_assoc, length-append}
+use Rattle.std.proofs.Common.{◌≡◌, ℕ, zero, suc, ◌+◌, ◌<◌, ◌≤◌, ◌⊎◌, inl, inr, List, length, [], ◌∷◌, ◌++◌, get_or, cond, Result, Ok, Err, refl, sym, ◌∙◌, ap}
+use Rattle.std.proofs.Common.{subst, arith, append_assoc, length-append}
 use Rattle.std.proofs.lemmas.List.{append-nil}
 use Rattle.std.specs.Prelude.{OnOk, is_ok}
 use Rattle.identity_source.specs.State.{PlainState, opening}
@@ -19,7 +20,8 @@ place_behind r (x ∷ xs) (suc i) d h low = let e : (get_or xs i d).revision ≡
 pub placed : (xs : List PlainState) (i : ℕ) (d : PlainState) → IsList xs → i < length xs → (get_or xs i d).revision ≡ i
 placed [] i d h low = absurd (omega arith)
 placed (x ∷ xs) zero d h low = h.first
-placed (x ∷ xs) (suc i) d h low = let e : (get_or xs i d).revision ≡ x.revision + 1 + i = place_behind x.revision xs i d h.history.1 (omega arith) in omega (arith, h.first)
+placed (x ∷ xs) (suc i) d h low = let e : (get_or xs i d).revision ≡ x.revision + 1 + i = place_behind x.revision xs i d h.history.1 (omega arith) in
+    omega (arith, h.first)
 
 count_behind : (r : ℕ) (xs : List PlainState) → Follows r xs → last_from r xs ≡ r + length xs
 count_behind r [] h = omega arith
@@ -60,21 +62,27 @@ more_list [] ys more l is h = absurd l.history
 more_list (x ∷ xs) ys more l is h = record { history = h; first = ap first_revision is ∙ l.first }
 
 -- the list never gets shorter
-pub replies_long : (width : ℕ) (list : List PlainState) (qs : List PlainRequest) (list' : List PlainState) (text : List ℕ) → AreReplies width list qs list' text → length list ≤ length list'
+pub replies_long : (width : ℕ) (list : List PlainState) (qs : List PlainRequest) (list' : List PlainState) (text : List ℕ)
+    → AreReplies width list qs list' text → length list ≤ length list'
 replies_long width list [] list' text p = omega (arith, ap length p.0)
 replies_long width list (Update t ∷ qs) list' text (next, (reply, (more, (inl a, rest, e)))) =
     omega (arith, ap length a.goes_on, length-append list (a.state ∷ []), replies_long width next qs list' more rest)
-replies_long width list (Update t ∷ qs) list' text (next, (reply, (more, (inr a, rest, e)))) = omega (arith, ap length a.stays, replies_long width next qs list' more rest)
-replies_long width list (Svid ∷ qs) list' text (next, (reply, (more, (a, rest, e)))) = omega (arith, ap length a.stays, replies_long width next qs list' more rest)
-replies_long width list (Bundle name domain ∷ qs) list' text (next, (reply, (more, (a, rest, e)))) = omega (arith, ap length a.stays, replies_long width next qs list' more rest)
+replies_long width list (Update t ∷ qs) list' text (next, (reply, (more, (inr a, rest, e)))) =
+    omega (arith, ap length a.stays, replies_long width next qs list' more rest)
+replies_long width list (Svid ∷ qs) list' text (next, (reply, (more, (a, rest, e)))) =
+    omega (arith, ap length a.stays, replies_long width next qs list' more rest)
+replies_long width list (Bundle name domain ∷ qs) list' text (next, (reply, (more, (a, rest, e)))) =
+    omega (arith, ap length a.stays, replies_long width next qs list' more rest)
 
 -- nothing was answered yet
 pub none_answered : (width : ℕ) (list : List PlainState) (before : List ℕ) → HaveReplies width list [] list before before
 none_answered width list before = record { text = []; replies = (refl, refl); stand = sym (append-nil before) }
 
 -- one more update is answered
-pub one_answered : (width : ℕ) (list : List PlainState) (updates : List PlainRequest) (mid list' : List PlainState) (before now now' text reply : List ℕ) → HaveReplies width list updates mid before now
-    → Accepts width mid text list' reply ⊎ Refuses width mid text list' reply → now' ≡ now ++ reply → HaveReplies width list (updates ++ Update text ∷ []) list' before now'
+pub one_answered : (width : ℕ) (list : List PlainState) (updates : List PlainRequest) (mid list' : List PlainState) (before now now' text reply : List ℕ)
+    → HaveReplies width list updates mid before now
+    → Accepts width mid text list' reply ⊎ Refuses width mid text list' reply → now' ≡ now ++ reply
+    → HaveReplies width list (updates ++ Update text ∷ []) list' before now'
 one_answered width list updates mid list' before now now' text reply p a e =
     record {
       text = p.text ++ reply;
@@ -83,10 +91,12 @@ one_answered width list updates mid list' before now now' text reply p a e =
     }
 
 -- what one state more says of the last
-pub ends_one : (xs ys : List PlainState) (x y : PlainState) → ys ≡ xs ++ x ∷ [] → EndsWith ys y → ((z w : PlainState) → EndsWith ys z → EndsWith ys w → w ≡ z) → xs ++ y ∷ [] ≡ ys
+pub ends_one : (xs ys : List PlainState) (x y : PlainState) → ys ≡ xs ++ x ∷ [] → EndsWith ys y
+    → ((z w : PlainState) → EndsWith ys z → EndsWith ys w → w ≡ z) → xs ++ y ∷ [] ≡ ys
 ends_one xs ys x y is ends law = ap (λ z. xs ++ z ∷ []) (law x y (xs, is) ends) ∙ sym is
 
 -- what was appended, where it was
-pub on_ok : {V E : Type 0} (r : Result V E) (now before reply : List ℕ) (P : List ℕ → Type 0) → now ≡ cond (is_ok r) (before ++ reply) before → P reply → OnOk r ((x : List ℕ) × (P x × (now ≡ before ++ x)))
+pub on_ok : {V E : Type 0} (r : Result V E) (now before reply : List ℕ) (P : List ℕ → Type 0) → now ≡ cond (is_ok r) (before ++ reply) before → P reply
+    → OnOk r ((x : List ℕ) × (P x × (now ≡ before ++ x)))
 on_ok (Ok v) now before reply P e p = (reply, (p, e))
 on_ok (Err error) now before reply P e p = tt

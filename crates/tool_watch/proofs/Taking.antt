@@ -41,13 +41,16 @@ begun left ahead updates queries empty none_yet none_asked =
     }
 
 -- a request is taken
-pub one_more : (left now now' : Option (List ℕ)) (count most size : ℕ) (updates updates' : List PlainRequest) (queries queries' : List Query) (q : PlainRequest) → Gathered left now count most updates queries
-    → Consumes now now' (spelled q) → IsRequest q → text_size q ≤ most → size ≡ text_size q → updates' ≡ updates ++ updates_of (q ∷ []) → queries' ≡ queries ++ queries_of (q ∷ [])
+pub one_more : (left now now' : Option (List ℕ)) (count most size : ℕ) (updates updates' : List PlainRequest) (queries queries' : List Query)
+    (q : PlainRequest) → Gathered left now count most updates queries
+    → Consumes now now' (spelled q) → IsRequest q → text_size q ≤ most → size ≡ text_size q → updates' ≡ updates ++ updates_of (q ∷ [])
+    → queries' ≡ queries ++ queries_of (q ∷ [])
     → Gathered left now' (count + 1) (most - size) updates' queries'
 one_more left now now' count most size updates updates' queries queries' q p taken lawful fits sized more asked =
     record {
       requests = p.requests ++ q ∷ [];
-      taken = subst (λ (l : List ℕ). Consumes left now' l) (sym (spelled_snoc p.requests q)) (consumes_more left now now' (flat_map spelled p.requests) (spelled q) p.taken taken);
+      taken = subst (λ (l : List ℕ). Consumes left now' l) (sym (spelled_snoc p.requests q))
+          (consumes_more left now now' (flat_map spelled p.requests) (spelled q) p.taken taken);
       lawful = All-push IsRequest p.requests q p.lawful lawful;
       counted = omega (arith, p.counted, length-append p.requests (q ∷ []));
       room = omega (arith, p.room, sizes_snoc p.requests q);
@@ -56,9 +59,11 @@ one_more left now now' count most size updates updates' queries queries' q p tak
     }
 
 -- the script ends
-pub ended : (left now : Option (List ℕ)) (count most : ℕ) (updates : List PlainRequest) (queries : List Query) (e : Ending) → Gathered left now count most updates queries → count ≤ 10000
+pub ended : (left now : Option (List ℕ)) (count most : ℕ) (updates : List PlainRequest) (queries : List Query) (e : Ending)
+    → Gathered left now count most updates queries → count ≤ 10000
     → IfSome now (λ bytes. EndsAs count most bytes e)
-    → IfSome left (λ bytes. (requests : List PlainRequest) × (WatchScript bytes requests e × ((updates ≡ updates_of requests) × (queries ≡ queries_of requests))))
+    → IfSome left (λ bytes. (requests : List PlainRequest) ×
+    (WatchScript bytes requests e × ((updates ≡ updates_of requests) × (queries ≡ queries_of requests))))
 ended None now count most updates queries e p few f = tt
 ended (Some xs) None count most updates queries e p few f = absurd p.taken
 ended (Some xs) (Some ys) count most updates queries e p few f =
@@ -66,7 +71,14 @@ ended (Some xs) (Some ys) count most updates queries e p few f =
       p.requests,
       (
         record {
-          front = record { rest = ys; whole = p.taken; lawful = p.lawful; few = omega (arith, p.counted); fit = all_have_room [] p.requests (omega (arith, p.room)) };
+          front = record {
+            rest = ys;
+            whole = p.taken;
+            lawful = p.lawful;
+            few = omega (arith, p.counted);
+            fit =
+                all_have_room [] p.requests (omega (arith, p.room));
+          };
           ends = subst (λ (m : ℕ). EndsAs (length p.requests) m ys e) room (subst (λ (n : ℕ). EndsAs n most ys e) (sym p.counted) f);
         },
         (p.updates_are, p.queries_are),
@@ -75,6 +87,7 @@ ended (Some xs) (Some ys) count most updates queries e p few f =
 
 -- what was gathered of it is left out
 pub unasked : (left : Option (List ℕ)) (updates : List PlainRequest) (queries : List Query) (e : Ending)
-    → IfSome left (λ bytes. (requests : List PlainRequest) × (WatchScript bytes requests e × ((updates ≡ updates_of requests) × (queries ≡ queries_of requests)))) → IsScript left e
+    → IfSome left (λ bytes. (requests : List PlainRequest) ×
+    (WatchScript bytes requests e × ((updates ≡ updates_of requests) × (queries ≡ queries_of requests)))) → IsScript left e
 unasked None updates queries e p = tt
 unasked (Some xs) updates queries e p = (p.0, p.1.0)

@@ -1,5 +1,6 @@
 -- What the workers saw, and what is written of it.
-use Rattle.std.proofs.Common.{◌≡◌, ℕ, zero, suc, ◌+◌, ◌-◌, ◌<◌, ◌≤◌, min, List, length, take, All, [], ◌∷◌, ◌++◌, get_or, Some, refl, sym, ◌∙◌, ap, subst, arith, append_assoc, add-one}
+use Rattle.std.proofs.Common.{◌≡◌, ℕ, zero, suc, ◌+◌, ◌-◌, ◌<◌, ◌≤◌, min, List, length, take, All, [], ◌∷◌, ◌++◌, get_or, Some, refl, sym, ◌∙◌, ap, subst}
+use Rattle.std.proofs.Common.{arith, append_assoc, add-one}
 use Rattle.std.proofs.lemmas.List.{append-nil}
 use Rattle.std.proofs.lemmas.Option.{slice_get-get_or}
 use Rattle.std.specs.Prelude.{slice_get}
@@ -19,7 +20,8 @@ last_snoc least [] r = refl
 last_snoc least (x ∷ rs) r = last_snoc x rs r
 
 -- a reader looks once more
-pub seen_more : (least : ℕ) (rs rs' : List ℕ) (before now r : ℕ) → Rises least rs → last_of least rs ≤ before → before ≤ r → r ≡ now → rs' ≡ rs ++ r ∷ [] → Rises least rs' × (last_of least rs' ≤ now)
+pub seen_more : (least : ℕ) (rs rs' : List ℕ) (before now r : ℕ) → Rises least rs → last_of least rs ≤ before → before ≤ r → r ≡ now → rs' ≡ rs ++ r ∷ []
+    → Rises least rs' × (last_of least rs' ≤ now)
 seen_more least rs rs' before now r h low up is more = (
   subst (λ (l : List ℕ). Rises least l) (sym more) (rises_snoc least rs r h (omega arith)),
   omega (arith, ap (last_of least) more, last_snoc least rs r),
@@ -31,10 +33,12 @@ state_placed list r h some = placed list (min r (length list - 1)) (opening 0) h
 
 state_is : (list : List PlainState) (r : ℕ) → IsList list → 0 < length list → IsStateOf list (state_at list r)
 state_is list r h some =
-    subst (λ (i : ℕ). slice_get list i ≡ Some (state_at list r)) (sym (state_placed list r h some)) (slice_get-get_or list (min r (length list - 1)) (opening 0) (omega arith))
+    subst (λ (i : ℕ). slice_get list i ≡ Some (state_at list r)) (sym (state_placed list r h some))
+    (slice_get-get_or list (min r (length list - 1)) (opening 0) (omega arith))
 
 -- answers in the states of revisions that never fall
-answers_rise : (list : List PlainState) (least bound : ℕ) (qs : List Query) (rs : List ℕ) → IsList list → 0 < length list → length rs ≡ length qs → least ≤ bound → Rises bound rs → least ≤ length list - 1
+answers_rise : (list : List PlainState) (least bound : ℕ) (qs : List Query) (rs : List ℕ) → IsList list → 0 < length list → length rs ≡ length qs
+    → least ≤ bound → Rises bound rs → least ≤ length list - 1
     → (last : ℕ) × AreAnswers list least qs last (answers_at list qs rs)
 answers_rise list least bound [] rs h some many low rise within = (least, (refl, refl))
 answers_rise list least bound (q ∷ qs) [] h some many low rise within = absurd (omega arith)
@@ -44,7 +48,8 @@ answers_rise list least bound (q ∷ qs) (r ∷ rs) h some many low rise within 
     (next.0, (state_at list r, (answers_at list qs rs, (state_is list r h some, (omega (arith, rise.0), (next.1, refl))))))
 
 -- the workers, where each saw what a reader may give
-pub workers_are : (list : List PlainState) (least : ℕ) (queries : List Query) (seen : List (List ℕ)) (n : ℕ) → IsList list → 0 < length list → least ≤ length list - 1 → All (IsSeen least (length queries)) seen
+pub workers_are : (list : List PlainState) (least : ℕ) (queries : List Query) (seen : List (List ℕ)) (n : ℕ) → IsList list → 0 < length list
+    → least ≤ length list - 1 → All (IsSeen least (length queries)) seen
     → n ≤ length seen → AreWorkers list least queries n (workers_at list queries seen n)
 workers_are list least queries seen zero h some within all few = refl
 workers_are list least queries seen (suc n) h some within all few =
@@ -53,7 +58,10 @@ workers_are list least queries seen (suc n) h some within all few =
       workers_at list queries seen n,
       (
         worker_line n ++ answers_at list queries (get_or seen n []),
-        (workers_are list least queries seen n h some within all (omega arith), (record { last = a.0; answers = answers_at list queries (get_or seen n []); replies = a.1; says = refl }, refl)),
+        (
+          workers_are list least queries seen n h some within all (omega arith),
+          (record { last = a.0; answers = answers_at list queries (get_or seen n []); replies = a.1; says = refl }, refl),
+        ),
       ),
     )
 
@@ -68,7 +76,8 @@ answers_suc list (p ∷ qs) (r ∷ rs) (suc k) q low small is =
     ∙ sym (append_assoc (query_reply p (state_at list r)) (answers_at list (take k qs) (take k rs)) (query_reply q (state_at list (get_or rs k 0))))
 
 -- one more query is answered
-pub answers_more : (list : List PlainState) (qs : List Query) (rs : List ℕ) (k : ℕ) (q : Query) (before text now reply : List ℕ) → k < length qs → k < length rs → q ≡ get_or qs k q
+pub answers_more : (list : List PlainState) (qs : List Query) (rs : List ℕ) (k : ℕ) (q : Query) (before text now reply : List ℕ) → k < length qs
+    → k < length rs → q ≡ get_or qs k q
     → text ≡ before ++ answers_at list (take k qs) (take k rs) → reply ≡ query_reply q (state_at list (get_or rs k 0)) → now ≡ text ++ reply
     → now ≡ before ++ answers_at list (take (k + 1) qs) (take (k + 1) rs)
 answers_more list qs rs k q before text now reply low small is so_far says more =
@@ -78,7 +87,8 @@ answers_more list qs rs k q before text now reply low small is so_far says more 
     ∙ (sym (answers_suc list qs rs k q low small is) ∙ ap (λ n. answers_at list (take n qs) (take n rs)) (sym (add-one k))))))
 
 -- one more worker is written
-pub workers_more : (list : List PlainState) (queries : List Query) (seen : List (List ℕ)) (n : ℕ) (own before text lined now : List ℕ) → own ≡ get_or seen n [] → text ≡ before ++ workers_at list queries seen n
+pub workers_more : (list : List PlainState) (queries : List Query) (seen : List (List ℕ)) (n : ℕ) (own before text lined now : List ℕ)
+    → own ≡ get_or seen n [] → text ≡ before ++ workers_at list queries seen n
     → lined ≡ text ++ worker_line n → now ≡ lined ++ answers_at list queries own → now ≡ before ++ workers_at list queries seen (n + 1)
 workers_more list queries seen n own before text lined now is so_far line more =
     more ∙ (ap (λ l. l ++ answers_at list queries own) (line ∙ ap (λ l. l ++ worker_line n) so_far)

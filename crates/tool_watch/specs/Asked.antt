@@ -34,7 +34,8 @@ updates_in texts = map (λ text. Update text.items) texts
 
 -- the input is a script that ends with `end`, and these are its updates and its queries
 abbrev pub IsAsked : Option (List ℕ) → List PlainRequest → List Query → Type 0
-IsAsked left updates queries = IfSome left (λ bytes. (requests : List PlainRequest) × (WatchScript bytes requests Done × ((updates ≡ updates_of requests) × (queries ≡ queries_of requests))))
+IsAsked left updates queries = IfSome left (λ bytes. (requests : List PlainRequest)
+    × (WatchScript bytes requests Done × ((updates ≡ updates_of requests) × (queries ≡ queries_of requests))))
 
 -- the input is a script with this ending
 abbrev pub IsScript : Option (List ℕ) → Ending → Type 0

@@ -37,7 +37,8 @@ pub record IsWorker (list : List PlainState) (least : ℕ) (queries : List Query
 -- so many workers one behind another, from worker 0 on
 abbrev pub AreWorkers : List PlainState → ℕ → List Query → ℕ → List ℕ → Type 0
 AreWorkers list least queries zero text = text ≡ []
-AreWorkers list least queries (suc n) text = (before : List ℕ) × ((own : List ℕ) × (AreWorkers list least queries n before × (IsWorker list least queries n own × (text ≡ before ++ own))))
+AreWorkers list least queries (suc n) text = (before : List ℕ)
+    × ((own : List ℕ) × (AreWorkers list least queries n before × (IsWorker list least queries n own × (text ≡ before ++ own))))
 
 -- the replies to the updates in order, and behind them the workers, none of which answers from before the first update
 pub record IsWatched (width workers : ℕ) (updates : List PlainRequest) (queries : List Query) (text : List ℕ) : Type 0 where

@@ -6,12 +6,12 @@ ghost use Rattle.tool_watch.specs.Applied.{HaveReplies, IsKept, IsList};
 ghost use Rattle.tool_watch.specs.Asked.{updates_in};
 
 use crate::gate::Gate;
-use refusal_lines::refusal_text;
-use tool_script::accepted_text;
 use identity_source::laws::states_are_told_by_revision;
 use identity_source::{IdentitySource, Snapshot};
+use refusal_lines::refusal_text;
 use std::alloc::{AllocError, Global};
 use std::sync::Wait;
+use tool_script::accepted_text;
 
 /// A share of each state of the source's list, and the replies to its updates.
 #[derive(Drop)]
@@ -56,7 +56,8 @@ impl Applied {
         text: &[u8],
     ) -> Result<(), AllocError>
         requires { IsKept source.old.list self.old.states.items }
-        ensures reply { OnOk result ((reply : List ℕ) × ((Accepts width source.old.list text.now source.new.list reply ⊎ Refuses width source.old.list text.now source.new.list reply)
+        ensures reply { OnOk result ((reply : List ℕ) × ((Accepts width source.old.list text.now source.new.list reply
+            ⊎ Refuses width source.old.list text.now source.new.list reply)
             × (self.new.replies.items ≡ self.old.replies.items ++ reply))) }
         ensures kept { OnOk result (IsKept source.new.list self.new.states.items) }
         ensures name { source.new.name ≡ source.old.name }
@@ -111,7 +112,8 @@ pub(crate) fn apply_rest<R: Wait, G: Gate>(
     texts: &[Vec<u8>],
 ) -> Result<Applied, AllocError>
     requires { IsKept source.old.list applied.states.items }
-    ensures replies { IfOk result (λ done. HaveReplies width source.old.list (updates_in texts.now) done.states.items applied.replies.items done.replies.items) }
+    ensures replies { IfOk result (λ done. HaveReplies width source.old.list (updates_in texts.now) done.states.items applied.replies.items
+        done.replies.items) }
     ensures list { IfOk result (λ done. IsList done.states.items) }
 {
     applied.apply_all(rt, alloc, width, gate, source, 1, texts)?;

@@ -4,9 +4,9 @@ ghost use Rattle.tool_script.specs.Request.{text_size};
 ghost use Rattle.tool_script.specs.Next.{meaning};
 ghost use Rattle.tool_watch.specs.Asked.{queries_of, updates_in, updates_of};
 
-use tool_script::Request;
 use spiffe_id::TrustDomain;
 use std::alloc::{AllocError, Global};
+use tool_script::Request;
 
 /// A query.
 #[derive(Drop)]

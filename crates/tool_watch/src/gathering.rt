@@ -5,8 +5,8 @@ ghost use Rattle.tool_watch.specs.Asked.{IsAsked, IsUnread, updates_in};
 use crate::asked::Asked;
 use command_line::Status;
 use identity_io::{LIMIT, Source};
-use tool_script::{Ahead, Ending, Next, Stop, next_request};
 use std::alloc::Global;
+use tool_script::{Ahead, Ending, Next, Stop, next_request};
 
 /// What the whole script asks for, or why it was not read to a good end.
 pub(crate) fn gather<S: Source>(alloc: Global, input: &mut S) -> Result<Asked, Status>

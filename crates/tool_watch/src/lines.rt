@@ -4,9 +4,9 @@ ghost use Rattle.tool_watch.specs.WatchText.{answers_at, query_reply, state_at, 
 
 use crate::applying::Applied;
 use crate::asked::Query;
-use tool_script::{bundle_text, svid_text};
 use identity_source::Snapshot;
 use std::alloc::{AllocError, Global};
+use tool_script::{bundle_text, svid_text};
 
 // The state of the revision, or the last one where there is none of it.
 fn state_of(states: &[Snapshot], revision: u64) -> &Snapshot
@@ -63,7 +63,8 @@ fn push_workers(
 ) -> Result<(), AllocError>
     requires some { 0 < length states.now }
     requires each { All (λ revisions. vec_len revisions ≡ length queries.now) seen.now }
-    ensures { OnOk result (text.new.items ≡ text.old.items ++ workers_at states.now queries.now (map (λ revisions. revisions.items) seen.now) (length seen.now)) }
+    ensures { OnOk result (text.new.items ≡ text.old.items ++ workers_at states.now queries.now (map (λ revisions. revisions.items) seen.now)
+        (length seen.now)) }
 {
     for (number, revisions) in seen.iter().enumerate() {
         push_line(text, alloc, number)?;
@@ -82,7 +83,8 @@ impl Applied {
     ) -> Result<Vec<u8>, AllocError>
         requires some { 0 < length self.states.items }
         requires each { All (λ revisions. vec_len revisions ≡ length queries.now) seen.now }
-        ensures { IfOk result (λ text. text.items ≡ self.replies.items ++ workers_at self.states.items queries.now (map (λ revisions. revisions.items) seen.now) (length seen.now)) }
+        ensures { IfOk result (λ text. text.items ≡ self.replies.items
+            ++ workers_at self.states.items queries.now (map (λ revisions. revisions.items) seen.now) (length seen.now)) }
     {
         let Applied {
             states,

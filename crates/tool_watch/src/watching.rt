@@ -17,12 +17,12 @@ use crate::gathering::gather;
 use crate::working::{Job, seat_all, work_all};
 use command_line::Status;
 use identity_io::{Sink, Source, write_all};
-use tool_script::laws::scripts_have_one_reading;
 use identity_source::{IdentityReader, IdentitySource};
 use std::alloc::{AllocError, Global};
 use std::sync::Wait;
 use std::thread;
 use std::thread::Threads;
+use tool_script::laws::scripts_have_one_reading;
 
 // What the workers saw, and what applying the rest of the updates has come to.
 fn side_by_side<R: Threads + Wait + Sync, G: Gate + Sync>(
@@ -44,7 +44,8 @@ fn side_by_side<R: Threads + Wait + Sync, G: Gate + Sync>(
     ensures many { IfOk result.0 (λ all. vec_len all ≡ vec_len jobs) }
     ensures each { IfOk result.0 (λ all. (i : ℕ) (d : _) (j : _) → i < vec_len jobs →
         IsSeen (last_revision (slice_index_or jobs.items i j).reader.list) count (slice_index_or all.items i d).items) }
-    ensures replies { IfOk result.1 (λ done. HaveReplies width source.old.list (updates_in texts.now) done.states.items applied.replies.items done.replies.items) }
+    ensures replies { IfOk result.1 (λ done. HaveReplies width source.old.list (updates_in texts.now) done.states.items applied.replies.items
+        done.replies.items) }
     ensures list { IfOk result.1 (λ done. IsList done.states.items) }
 {
     thread::join(

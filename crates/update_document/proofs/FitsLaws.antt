@@ -72,7 +72,8 @@ public_le s (Some k) a =
     let all = ap length a.is ∙ length-append a.front a.rest in
     omega arith
 
-tail_le : (s : List ℕ) (t : Option (List ℕ)) (k : Option PlainBits) → AfterKey plain_reads.attributes BitsContent t k s → length (optional_field attributes_tag (λ content. content) t) + length (optional_field public_key_tag bits_content k) ≤ length s
+tail_le : (s : List ℕ) (t : Option (List ℕ)) (k : Option PlainBits) → AfterKey plain_reads.attributes BitsContent t k s
+    → length (optional_field attributes_tag (λ content. content) t) + length (optional_field public_key_tag bits_content k) ≤ length s
 tail_le s None k a = let public = public_le s k a.1 in omega arith
 tail_le s (Some t) k a =
     let field = ap length (a.reads.is ∙ ap (λ (x : List ℕ). encode attributes_tag x) (sym a.reads.has)) in
@@ -134,7 +135,8 @@ bundle_le b v r =
     let is = ap length r.is in
     omega arith
 
-elements_le : {V : Type 0} (Reads : List ℕ → V → Type 0) (der : V → List ℕ) → ((b : List ℕ) (v : V) → Reads b v → length (der v) ≤ length b) → (vs : List V) (b : List ℕ) → Elements Reads vs b → length (flat_map der vs) ≤ length b
+elements_le : {V : Type 0} (Reads : List ℕ → V → Type 0) (der : V → List ℕ) → ((b : List ℕ) (v : V) → Reads b v → length (der v) ≤ length b)
+    → (vs : List V) (b : List ℕ) → Elements Reads vs b → length (flat_map der vs) ≤ length b
 elements_le Reads der law [] b e = omega arith
 elements_le Reads der law (v ∷ vs) b e =
     let first = law e.front v e.reads in
@@ -152,7 +154,8 @@ document_le b u r =
     let entries : List ℕ = flat_map entry_der u.entries in
     let bundles : List ℕ = flat_map bundle_der u.bundles in
     let es = encode_le 48 entries r.has.reads.content (elements_le ReadsEntry entry_der entry_le u.entries r.has.reads.content r.has.reads.has) in
-    let bs = encode_le 48 bundles r.has.next.reads.content (elements_le ReadsBundle bundle_der bundle_le u.bundles r.has.next.reads.content r.has.next.reads.has) in
+    let bs = encode_le 48 bundles r.has.next.reads.content (elements_le ReadsBundle bundle_der bundle_le u.bundles r.has.next.reads.content
+    r.has.next.reads.has) in
     let es_is = ap length r.has.reads.is in
     let bs_is = ap length r.has.next.reads.is in
     let reason = reason_is r.has.next.rest u.reason r.has.next.next in

@@ -147,7 +147,8 @@ plain_entries of = record { to = entry_to; back = entry_back of }
 pub plain_bundles : Borrowed → Plainly ReadsBundleRef ReadsBundle written_bundle
 plain_bundles of = record { to = bundle_to; back = bundle_back of }
 
-elements_to : {V P : Type 0} (Reads : List ℕ → V → Type 0) (ReadsPlain : List ℕ → P → Type 0) (plain : V → P) → Plainly Reads ReadsPlain plain → (vs : List V) (b : List ℕ) → Elements Reads vs b → Elements ReadsPlain (map plain vs) b
+elements_to : {V P : Type 0} (Reads : List ℕ → V → Type 0) (ReadsPlain : List ℕ → P → Type 0) (plain : V → P) → Plainly Reads ReadsPlain plain
+    → (vs : List V) (b : List ℕ) → Elements Reads vs b → Elements ReadsPlain (map plain vs) b
 elements_to Reads ReadsPlain plain law [] b e = e
 elements_to Reads ReadsPlain plain law (v ∷ vs) b e = record {
   front = e.front;
@@ -160,7 +161,8 @@ elements_to Reads ReadsPlain plain law (v ∷ vs) b e = record {
 abbrev Contains : {V : Type 0} → (List ℕ → V → Type 0) → List ℕ → List V → Type 0
 Contains Reads b vs = Elements Reads vs b
 
-elements_back : {V P : Type 0} (Reads : List ℕ → V → Type 0) (ReadsPlain : List ℕ → P → Type 0) (plain : V → P) → Plainly Reads ReadsPlain plain → (ps : List P) (b : List ℕ) → Elements ReadsPlain ps b → HasRead (Contains Reads) b
+elements_back : {V P : Type 0} (Reads : List ℕ → V → Type 0) (ReadsPlain : List ℕ → P → Type 0) (plain : V → P) → Plainly Reads ReadsPlain plain
+    → (ps : List P) (b : List ℕ) → Elements ReadsPlain ps b → HasRead (Contains Reads) b
 elements_back Reads ReadsPlain plain law [] b e = record { value = []; reads = e }
 elements_back Reads ReadsPlain plain law (p ∷ ps) b e =
     let first = law.back e.front p e.reads in
@@ -173,7 +175,8 @@ elements_back Reads ReadsPlain plain law (p ∷ ps) b e =
 abbrev pub plain_document : {E B E' B' : Type 0} → (E → E') → (B → B') → DocumentOf E B → DocumentOf E' B'
 plain_document f g d = record { entries = map f d.entries; bundles = map g d.bundles; reason = d.reason }
 
-document_to : {E B E' B' : Type 0} (RE : List ℕ → E → Type 0) (RB : List ℕ → B → Type 0) (RE' : List ℕ → E' → Type 0) (RB' : List ℕ → B' → Type 0) (f : E → E') (g : B → B') → Plainly RE RE' f → Plainly RB RB' g
+document_to : {E B E' B' : Type 0} (RE : List ℕ → E → Type 0) (RB : List ℕ → B → Type 0) (RE' : List ℕ → E' → Type 0) (RB' : List ℕ → B' → Type 0)
+    (f : E → E') (g : B → B') → Plainly RE RE' f → Plainly RB RB' g
     → (b : List ℕ) (d : DocumentOf E B) → ReadsDocument RE RB b d → ReadsDocument RE' RB' b (plain_document f g d)
 document_to RE RB RE' RB' f g entries bundles b d r = record {
   content = r.content;
@@ -181,12 +184,23 @@ document_to RE RB RE' RB' f g entries bundles b d r = record {
     front = r.has.front;
     rest = r.has.rest;
     is = r.has.is;
-    reads = record { content = r.has.reads.content; has = elements_to RE RE' f entries d.entries r.has.reads.content r.has.reads.has; is = r.has.reads.is; fits = r.has.reads.fits };
+    reads = record {
+      content = r.has.reads.content;
+      has = elements_to RE RE' f entries d.entries r.has.reads.content r.has.reads.has;
+      is = r.has.reads.is;
+      fits = r.has.reads.fits;
+    };
     next = record {
       front = r.has.next.front;
       rest = r.has.next.rest;
       is = r.has.next.is;
-      reads = record { content = r.has.next.reads.content; has = elements_to RB RB' g bundles d.bundles r.has.next.reads.content r.has.next.reads.has; is = r.has.next.reads.is; fits = r.has.next.reads.fits };
+      reads = record {
+        content = r.has.next.reads.content;
+        has = elements_to RB RB' g bundles d.bundles r.has.next.reads.content r.has.next.reads.has;
+        is =
+            r.has.next.reads.is;
+        fits = r.has.next.reads.fits;
+      };
       next = r.has.next.next;
     };
   };
@@ -194,7 +208,8 @@ document_to RE RB RE' RB' f g entries bundles b d r = record {
   fits = r.fits;
 }
 
-document_back : {E B E' B' : Type 0} (RE : List ℕ → E → Type 0) (RB : List ℕ → B → Type 0) (RE' : List ℕ → E' → Type 0) (RB' : List ℕ → B' → Type 0) (f : E → E') (g : B → B') → Plainly RE RE' f → Plainly RB RB' g
+document_back : {E B E' B' : Type 0} (RE : List ℕ → E → Type 0) (RB : List ℕ → B → Type 0) (RE' : List ℕ → E' → Type 0) (RB' : List ℕ → B' → Type 0)
+    (f : E → E') (g : B → B') → Plainly RE RE' f → Plainly RB RB' g
     → (b : List ℕ) (d : DocumentOf E' B') → ReadsDocument RE' RB' b d → HasRead (ReadsDocument RE RB) b
 document_back RE RB RE' RB' f g entries bundles b d r =
     let es = elements_back RE RE' f entries d.entries r.has.reads.content r.has.reads.has in
@@ -221,9 +236,14 @@ document_back RE RB RE' RB' f g entries bundles b d r =
       };
     }
 
-pub plain_documents : {E B E' B' : Type 0} (RE : List ℕ → E → Type 0) (RB : List ℕ → B → Type 0) (RE' : List ℕ → E' → Type 0) (RB' : List ℕ → B' → Type 0) (f : E → E') (g : B → B') → Plainly RE RE' f → Plainly RB RB' g
+pub plain_documents : {E B E' B' : Type 0} (RE : List ℕ → E → Type 0) (RB : List ℕ → B → Type 0) (RE' : List ℕ → E' → Type 0) (RB' : List ℕ → B' → Type 0)
+    (f : E → E') (g : B → B') → Plainly RE RE' f → Plainly RB RB' g
     → Plainly (ReadsDocument RE RB) (ReadsDocument RE' RB') (plain_document f g)
-plain_documents RE RB RE' RB' f g entries bundles = record { to = document_to RE RB RE' RB' f g entries bundles; back = document_back RE RB RE' RB' f g entries bundles }
+plain_documents RE RB RE' RB' f g entries bundles = record {
+  to = document_to RE RB RE' RB' f g entries bundles;
+  back =
+      document_back RE RB RE' RB' f g entries bundles;
+}
 
 -- the same answer, of plain data
 answer_to : {W V P : Type 0} (Reads : List ℕ → V → Type 0) (ReadsPlain : List ℕ → P → Type 0) (plain : V → P) (seen : W → V) → Plainly Reads ReadsPlain plain
@@ -250,7 +270,8 @@ answer_to Reads ReadsPlain plain seen law bytes (Err error.FileTooLong) none = n
 answer_to Reads ReadsPlain plain seen law bytes (Err error.OutOfMemory) none = tt
 
 -- the answer to the bytes of an update document
-pub update_answer : Borrowed → (bytes : List ℕ) (r : Result (DocumentFields EntryRef BundleRef) Error) → FromDerOwned document_of (ReadsDocument ReadsEntryRef ReadsBundleRef) bytes r → FromDerOwned written_update ReadsUpdate bytes r
+pub update_answer : Borrowed → (bytes : List ℕ) (r : Result (DocumentFields EntryRef BundleRef) Error)
+    → FromDerOwned document_of (ReadsDocument ReadsEntryRef ReadsBundleRef) bytes r → FromDerOwned written_update ReadsUpdate bytes r
 update_answer of bytes r answer =
     answer_to (ReadsDocument ReadsEntryRef ReadsBundleRef) ReadsUpdate (plain_document written_entry written_bundle) document_of
     (plain_documents ReadsEntryRef ReadsBundleRef ReadsEntry ReadsBundle written_entry written_bundle (plain_entries of) (plain_bundles of)) bytes r answer

@@ -21,7 +21,8 @@ ReadsReason (Some text) = λ bytes. ReadsTagged 128 HasReason bytes text
 
 -- the fields of a document, over what its entries and bundles read as
 abbrev pub DocumentContent : {E B : Type 0} → (List ℕ → E → Type 0) → (List ℕ → B → Type 0) → List ℕ → List E → List B → Option (List ℕ) → Type 0
-DocumentContent ReadsE ReadsB bytes entries bundles reason = Then (ReadsList ReadsE) (λ after. Then (ReadsList ReadsB) (ReadsReason reason) after bundles) bytes entries
+DocumentContent ReadsE ReadsB bytes entries bundles reason =
+    Then (ReadsList ReadsE) (λ after. Then (ReadsList ReadsB) (ReadsReason reason) after bundles) bytes entries
 
 -- what a document holds, over what its entries and bundles are
 pub record DocumentOf (E B : Type 0) : Type 0 where

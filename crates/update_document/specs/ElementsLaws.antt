@@ -42,7 +42,8 @@ pub elements_written : {V : Type 0} (Reads : List ℕ → V → Type 0) (encodin
     bytes ≡ flat_map encoding vs
 elements_written Reads encoding law [] bytes e = e
 elements_written Reads encoding law (v ∷ vs) bytes e =
-    e.is ∙ ap (λ (x : List ℕ). x ++ e.rest) (law e.front v e.reads) ∙ ap (λ (x : List ℕ). encoding v ++ x) (elements_written Reads encoding law vs e.rest e.next)
+    e.is ∙ ap (λ (x : List ℕ). x ++ e.rest) (law e.front v e.reads)
+    ∙ ap (λ (x : List ℕ). encoding v ++ x) (elements_written Reads encoding law vs e.rest e.next)
 
 -- And the encodings are read.
 pub elements_read : {V : Type 0} (Reads : List ℕ → V → Type 0) (encoding : V → List ℕ) →

@@ -1,4 +1,5 @@
-//! Documents of numbers in place of entries and bundles, put together by hand from X.690, and one update document, put together from the grammar by a few lines of Python over RFC 8410's keys.
+//! Documents of numbers in place of entries and bundles, put together by hand from X.690, and one update document, put
+//! together from the grammar by a few lines of Python over RFC 8410's keys.
 use crate::checks::{good, same, same_bytes};
 use der_core::{Encode, Error};
 use der_small::Utf8Ref;
@@ -6,7 +7,11 @@ use update_document::{SequenceOf, WrittenDocument, read_document, read_update};
 
 // The identity `spiffe://example.org/a` with an Ed25519 key pair, and a bundle of `example.org` without keys.
 const UPDATE: &[u8] =
-    b"\x30\x81\x96\x30\x76\x30\x74\x0c\x16\x73\x70\x69\x66\x66\x65\x3a\x2f\x2f\x65\x78\x61\x6d\x70\x6c\x65\x2e\x6f\x72\x67\x2f\x61\x30\x2e\x02\x01\x00\x30\x05\x06\x03\x2b\x65\x70\x04\x22\x04\x20\x11\x11\x11\x11\x11\x11\x11\x11\x11\x11\x11\x11\x11\x11\x11\x11\x11\x11\x11\x11\x11\x11\x11\x11\x11\x11\x11\x11\x11\x11\x11\x11\x30\x2a\x30\x05\x06\x03\x2b\x65\x70\x03\x21\x00\x4d\x29\x16\x7f\x3f\x19\x12\xa6\xf7\xad\xfa\x29\x3a\x05\x1a\x15\xc0\x5e\xc6\x7b\x8f\x17\x26\x7b\x1c\x55\x50\xdc\xe8\x53\xbd\x0d\x30\x1c\x30\x1a\x0c\x0b\x65\x78\x61\x6d\x70\x6c\x65\x2e\x6f\x72\x67\x04\x0b\x7b\x22\x6b\x65\x79\x73\x22\x3a\x5b\x5d\x7d";
+    b"\x30\x81\x96\x30\x76\x30\x74\x0c\x16\x73\x70\x69\x66\x66\x65\x3a\x2f\x2f\x65\x78\x61\x6d\x70\x6c\x65\x2e\x6f\x72\x67\x2f\x61\x30\x2e\
+         \x02\x01\x00\x30\x05\x06\x03\x2b\x65\x70\x04\x22\x04\x20\x11\x11\x11\x11\x11\x11\x11\x11\x11\x11\x11\x11\x11\x11\x11\x11\x11\x11\
+         \x11\x11\x11\x11\x11\x11\x11\x11\x11\x11\x11\x11\x11\x11\x30\x2a\x30\x05\x06\x03\x2b\x65\x70\x03\x21\x00\x4d\x29\x16\x7f\x3f\x19\
+         \x12\xa6\xf7\xad\xfa\x29\x3a\x05\x1a\x15\xc0\x5e\xc6\x7b\x8f\x17\x26\x7b\x1c\x55\x50\xdc\xe8\x53\xbd\x0d\x30\x1c\x30\x1a\x0c\x0b\
+         \x65\x78\x61\x6d\x70\x6c\x65\x2e\x6f\x72\x67\x04\x0b\x7b\x22\x6b\x65\x79\x73\x22\x3a\x5b\x5d\x7d";
 
 // A document of the entries 1 and 2, the bundle 3 and a reason.
 const DOCUMENT: &[u8] = b"\x30\x13\x30\x06\x02\x01\x01\x02\x01\x02\x30\x03\x02\x01\x03\x80\x04gone";
@@ -82,11 +87,15 @@ fn rows() -> [(&'static [u8], Option<Error>); 12] {
         (b"0\x070\x000\x00\x81\x01a", malformed),
         (b"0\x090\x000\x00\x80\x01a\x05\x00", malformed),
         (
-            b"0\x82\x01\x060\x000\x00\x80\x81\xffrrrrrrrrrrrrrrrrrrrrrrrrrrrrrrrrrrrrrrrrrrrrrrrrrrrrrrrrrrrrrrrrrrrrrrrrrrrrrrrrrrrrrrrrrrrrrrrrrrrrrrrrrrrrrrrrrrrrrrrrrrrrrrrrrrrrrrrrrrrrrrrrrrrrrrrrrrrrrrrrrrrrrrrrrrrrrrrrrrrrrrrrrrrrrrrrrrrrrrrrrrrrrrrrrrrrrrrrrrrrrrrrrrrrrrrrrrrrrrrrrrrrrrrrrrrrrrr",
+            b"0\x82\x01\x060\x000\x00\x80\x81\xffrrrrrrrrrrrrrrrrrrrrrrrrrrrrrrrrrrrrrrrrrrrrrrrrrrrrrrrrrrrrrrrrrrrrrrrrrrrrrrrrrrrrrrrrrrr\
+                 rrrrrrrrrrrrrrrrrrrrrrrrrrrrrrrrrrrrrrrrrrrrrrrrrrrrrrrrrrrrrrrrrrrrrrrrrrrrrrrrrrrrrrrrrrrrrrrrrrrrrrrrrrrrrrrrrrrrrrrrrrr\
+                 rrrrrrrrrrrrrrrrrrrrrrrrrrrrrrrrrrrrrrrrr",
             None,
         ),
         (
-            b"0\x82\x01\x080\x000\x00\x80\x82\x01\x00rrrrrrrrrrrrrrrrrrrrrrrrrrrrrrrrrrrrrrrrrrrrrrrrrrrrrrrrrrrrrrrrrrrrrrrrrrrrrrrrrrrrrrrrrrrrrrrrrrrrrrrrrrrrrrrrrrrrrrrrrrrrrrrrrrrrrrrrrrrrrrrrrrrrrrrrrrrrrrrrrrrrrrrrrrrrrrrrrrrrrrrrrrrrrrrrrrrrrrrrrrrrrrrrrrrrrrrrrrrrrrrrrrrrrrrrrrrrrrrrrrrrrrrrrrrrrrrr",
+            b"0\x82\x01\x080\x000\x00\x80\x82\x01\x00rrrrrrrrrrrrrrrrrrrrrrrrrrrrrrrrrrrrrrrrrrrrrrrrrrrrrrrrrrrrrrrrrrrrrrrrrrrrrrrrrrrrrrr\
+                 rrrrrrrrrrrrrrrrrrrrrrrrrrrrrrrrrrrrrrrrrrrrrrrrrrrrrrrrrrrrrrrrrrrrrrrrrrrrrrrrrrrrrrrrrrrrrrrrrrrrrrrrrrrrrrrrrrrrrrrrrrr\
+                 rrrrrrrrrrrrrrrrrrrrrrrrrrrrrrrrrrrrrrrrrrrrrr",
             malformed,
         ),
     ]

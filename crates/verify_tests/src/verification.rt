@@ -15,7 +15,8 @@ use std::process::Abort;
 
 const ON_CURVE: &str = "header={\"alg\":\"ES256\",\"kid\":\"k1\",\"typ\":\"JWT\"}
 claims={\"aud\":[\"a\"],\"exp\":1700000000,\"iat\":1600000000,\"sub\":\"spiffe://example.org/a\"}
-key={\"kid\":\"k1\",\"kty\":\"EC\",\"crv\":\"P-256\",\"x\":\"AAAAAAAAAAAAAAAAAAAAAAAAAAAAAAAAAAAAAAAAAAA\",\"y\":\"AAAAAAAAAAAAAAAAAAAAAAAAAAAAAAAAAAAAAAAAAAA\"}
+key={\"kid\":\"k1\",\"kty\":\"EC\",\"crv\":\"P-256\",\"x\":\"AAAAAAAAAAAAAAAAAAAAAAAAAAAAAAAAAAAAAAAAAAA\",\"y\":\"AAAAAAAAAAAAAAAAAAAAAAAAA\
+    AAAAAAAAAAAAAAAAAA\"}
 domain=example.org
 now=1600000000000000000
 want=a

@@ -50,7 +50,8 @@ impl IdentitySource {
         }
     }
 
-    /// Appends the state that the text lawfully writes in lines of `width` characters, and gives a receipt of the list with it. A refused call publishes nothing.
+    /// Appends the state that the text lawfully writes in lines of `width` characters, and gives a receipt of the list
+    /// with it. A refused call publishes nothing.
     ///
     /// It may wait for readers that stand inside `current`. Whoever is told of the receipt sees the state; other readers see it soon.
     pub fn apply<R: Wait>(

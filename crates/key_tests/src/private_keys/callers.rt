@@ -45,7 +45,8 @@ impl DecodePrivateKey for Ed25519Key {
     ghost plain = { λ k. octets k.octets };
 
     // Of the keys that `PrivateKeyInfoOwned` reads it takes those with this identifier.
-    ghost HasAnswer = { TakesSome (λ p. if pointwise nat_eq p.algorithm.oid (43 ∷ 101 ∷ 112 ∷ []) then Some p.private_key else None) (refusal.KeyMalformed why.Invalid) (ReadAnswer ReadsPrivateKey) };
+    ghost HasAnswer = { TakesSome (λ p. if pointwise nat_eq p.algorithm.oid (43 ∷ 101 ∷ 112 ∷ []) then Some p.private_key else None)
+        (refusal.KeyMalformed why.Invalid) (ReadAnswer ReadsPrivateKey) };
 
     fn from_pkcs8_der(alloc: Global, bytes: &[u8]) -> Result<Self> {
         match PrivateKeyInfoOwned::from_pkcs8_der(alloc, bytes) {
@@ -67,7 +68,12 @@ impl DecodePrivateKey for Ed25519Key {
 }
 
 impl EncodePrivateKey for Ed25519Key {
-    ghost document = { λ k. written_answer (private_key_der (record { algorithm = record { oid = 43 ∷ 101 ∷ 112 ∷ []; parameters = None }; private_key = octets k.octets; attributes = None; public_key = None })) };
+    ghost document = { λ k. written_answer (private_key_der (record {
+      algorithm = record { oid = 43 ∷ 101 ∷ 112 ∷ []; parameters = None };
+      private_key = octets k.octets;
+      attributes = None;
+      public_key = None;
+    })) };
 
     fn to_pkcs8_der(&self, alloc: Global) -> Result<SecretDocument> {
         let algorithm = AlgorithmIdentifierRef {

@@ -52,7 +52,8 @@ fn octets_and_attributes_are_not_shown(rt: HostRuntime) {
         &rt,
         "a text",
         text.as_str(),
-        "PrivateKeyInfo { version: V2, algorithm: AlgorithmIdentifier { oid: 1.3.101.112, parameters: None }, public_key: Some(BitString { unused_bits: 4, octets: [1, 240] }) }",
+        "PrivateKeyInfo { version: V2, algorithm: AlgorithmIdentifier { oid: 1.3.101.112, parameters: None }, public_key: Some(BitString { u\
+             nused_bits: 4, octets: [1, 240] }) }",
     );
 }
 
@@ -69,7 +70,8 @@ fn parameters_are_shown(rt: HostRuntime) {
         &rt,
         "a text",
         text.as_str(),
-        "PrivateKeyInfo { version: V1, algorithm: AlgorithmIdentifier { oid: 1.2.840.10045.2.1, parameters: Some([6, 8, 42, 134, 72, 206, 61, 3, 1, 7]) }, public_key: None }",
+        "PrivateKeyInfo { version: V1, algorithm: AlgorithmIdentifier { oid: 1.2.840.10045.2.1, parameters: Some([6, 8, 42, 134, 72, 206, 61\
+             , 3, 1, 7]) }, public_key: None }",
     );
 }
 

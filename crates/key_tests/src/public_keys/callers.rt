@@ -34,7 +34,8 @@ impl DecodePublicKey for Ed25519Key {
     ghost plain = { λ k. plain_bits k.bits };
 
     // Of the keys that `SubjectPublicKeyInfoOwned` reads it takes those with this identifier.
-    ghost HasAnswer = { TakesSome (λ p. if pointwise nat_eq p.algorithm.oid (43 ∷ 101 ∷ 112 ∷ []) then Some p.key else None) refusal.KeyMalformed (ReadAnswer ReadsPublicKey) };
+    ghost HasAnswer = { TakesSome (λ p. if pointwise nat_eq p.algorithm.oid (43 ∷ 101 ∷ 112 ∷ []) then Some p.key else None) refusal.KeyMalformed
+        (ReadAnswer ReadsPublicKey) };
 
     fn from_public_key_der(alloc: Global, bytes: &[u8]) -> Result<Self> {
         match SubjectPublicKeyInfoOwned::from_public_key_der(alloc, bytes) {
@@ -56,7 +57,10 @@ impl DecodePublicKey for Ed25519Key {
 }
 
 impl EncodePublicKey for Ed25519Key {
-    ghost document = { λ k. written_answer (public_key_der (record { algorithm = record { oid = 43 ∷ 101 ∷ 112 ∷ []; parameters = None }; key = plain_bits k.bits })) };
+    ghost document = { λ k. written_answer (public_key_der (record {
+      algorithm = record { oid = 43 ∷ 101 ∷ 112 ∷ []; parameters = None };
+      key = plain_bits k.bits;
+    })) };
 
     fn to_public_key_der(&self, alloc: Global) -> Result<Document> {
         let key = SubjectPublicKeyInfo {

@@ -1,4 +1,5 @@
-//! What updates lend, and when they are equal. The documents are put together from the grammar by a few lines of Python, and written by its `base64`; keys are RFC 8410's, made by OpenSSL.
+//! What updates lend, and when they are equal. The documents are put together from the grammar by a few lines of
+//! Python, and written by its `base64`; keys are RFC 8410's, made by OpenSSL.
 use crate::checks::{good, same, some};
 use der_core::Decode;
 use identity_update::{Entries, Update};
@@ -9,22 +10,29 @@ use std::process::Abort;
 
 // A private key with attributes, which are empty, and its public key, by themselves.
 const PRIVATE_KEY: &[u8] =
-    b"\x30\x53\x02\x01\x01\x30\x05\x06\x03\x2b\x65\x70\x04\x22\x04\x20\x11\x11\x11\x11\x11\x11\x11\x11\x11\x11\x11\x11\x11\x11\x11\x11\x11\x11\x11\x11\x11\x11\x11\x11\x11\x11\x11\x11\x11\x11\x11\x11\xa0\x00\x81\x21\x00\x4d\x29\x16\x7f\x3f\x19\x12\xa6\xf7\xad\xfa\x29\x3a\x05\x1a\x15\xc0\x5e\xc6\x7b\x8f\x17\x26\x7b\x1c\x55\x50\xdc\xe8\x53\xbd\x0d";
+    b"\x30\x53\x02\x01\x01\x30\x05\x06\x03\x2b\x65\x70\x04\x22\x04\x20\x11\x11\x11\x11\x11\x11\x11\x11\x11\x11\x11\x11\x11\x11\x11\x11\x11\
+         \x11\x11\x11\x11\x11\x11\x11\x11\x11\x11\x11\x11\x11\x11\x11\xa0\x00\x81\x21\x00\x4d\x29\x16\x7f\x3f\x19\x12\xa6\xf7\xad\xfa\x29\
+         \x3a\x05\x1a\x15\xc0\x5e\xc6\x7b\x8f\x17\x26\x7b\x1c\x55\x50\xdc\xe8\x53\xbd\x0d";
 
 const PUBLIC_KEY: &[u8] =
-    b"\x30\x2a\x30\x05\x06\x03\x2b\x65\x70\x03\x21\x00\x4d\x29\x16\x7f\x3f\x19\x12\xa6\xf7\xad\xfa\x29\x3a\x05\x1a\x15\xc0\x5e\xc6\x7b\x8f\x17\x26\x7b\x1c\x55\x50\xdc\xe8\x53\xbd\x0d";
+    b"\x30\x2a\x30\x05\x06\x03\x2b\x65\x70\x03\x21\x00\x4d\x29\x16\x7f\x3f\x19\x12\xa6\xf7\xad\xfa\x29\x3a\x05\x1a\x15\xc0\x5e\xc6\x7b\x8f\
+         \x17\x26\x7b\x1c\x55\x50\xdc\xe8\x53\xbd\x0d";
 
 // An update whose one entry has these keys.
 const WITH_KEYS: &[u8] =
-    b"MIG9MIGcMIGZDBZzcGlmZmU6Ly9leGFtcGxlLm9yZy9hMFMCAQEwBQYDK2VwBCIEIBERERERERERERERERERERERERERERERERERERERERERoACBIQBNKRZ/PxkSpvet+ik6BRoVwF7Ge48XJnscVVDc6FO9DTAqMAUGAytlcAMhAE0pFn8/GRKm9636KToFGhXAXsZ7jxcmexxVUNzoU70NMBwwGgwLZXhhbXBsZS5vcmcEC3sia2V5cyI6W119";
+    b"MIG9MIGcMIGZDBZzcGlmZmU6Ly9leGFtcGxlLm9yZy9hMFMCAQEwBQYDK2VwBCIEIBERERERERERERERERERERERERERERERERERERERERERoACBIQBNKRZ/PxkSpvet+ik6BR\
+         oVwF7Ge48XJnscVVDc6FO9DTAqMAUGAytlcAMhAE0pFn8/GRKm9636KToFGhXAXsZ7jxcmexxVUNzoU70NMBwwGgwLZXhhbXBsZS5vcmcEC3sia2V5cyI6W119";
 
 // Three entries, and three bundles.
 const THREE_ENTRIES: &[u8] =
-    b"MIG/MIGEMCoMDHNwaWZmZTovL2EveDANAgEAMAUGAytlcAQBETALMAUGAytlcAMCAE0wKgwMc3BpZmZlOi8vYS95MA0CAQAwBQYDK2VwBAERMAswBQYDK2VwAwIATTAqDAxzcGlmZmU6Ly9hL3owDQIBADAFBgMrZXAEAREwCzAFBgMrZXADAgBNMDYwEAwBYQQLeyJrZXlzIjpbXX0wEAwBYgQLeyJrZXlzIjpbXX0wEAwBYwQLeyJrZXlzIjpbXX0=";
+    b"MIG/MIGEMCoMDHNwaWZmZTovL2EveDANAgEAMAUGAytlcAQBETALMAUGAytlcAMCAE0wKgwMc3BpZmZlOi8vYS95MA0CAQAwBQYDK2VwBAERMAswBQYDK2VwAwIATTAqDAxzcG\
+         lmZmU6Ly9hL3owDQIBADAFBgMrZXAEAREwCzAFBgMrZXADAgBNMDYwEAwBYQQLeyJrZXlzIjpbXX0wEAwBYgQLeyJrZXlzIjpbXX0wEAwBYwQLeyJrZXlzIjpbXX0=";
 
 // Two bundles of one trust domain: the first with the key `k1`, the second with `k2`.
 const TWO_BUNDLES: &[u8] =
-    b"MIHKMHYwdAwWc3BpZmZlOi8vZXhhbXBsZS5vcmcvYTAuAgEAMAUGAytlcAQiBCARERERERERERERERERERERERERERERERERERERERERETAqMAUGAytlcAMhAE0pFn8/GRKm9636KToFGhXAXsZ7jxcmexxVUNzoU70NMFAwJgwLZXhhbXBsZS5vcmcEF3sia2V5cyI6W3sia2lkIjoiazEifV19MCYMC2V4YW1wbGUub3JnBBd7ImtleXMiOlt7ImtpZCI6ImsyIn1dfQ==";
+    b"MIHKMHYwdAwWc3BpZmZlOi8vZXhhbXBsZS5vcmcvYTAuAgEAMAUGAytlcAQiBCARERERERERERERERERERERERERERERERERERERERERETAqMAUGAytlcAMhAE0pFn8/GRKm96\
+         36KToFGhXAXsZ7jxcmexxVUNzoU70NMFAwJgwLZXhhbXBsZS5vcmcEF3sia2V5cyI6W3sia2lkIjoiazEifV19MCYMC2V4YW1wbGUub3JnBBd7ImtleXMiOlt7ImtpZCI6I\
+         msyIn1dfQ==";
 
 fn read(rt: &impl Abort, alloc: Global, text: &[u8]) -> Update {
     good(rt, "an update", Update::read(alloc, text, 500))
@@ -70,9 +78,18 @@ fn last_bundle_is_kept(rt: HostRuntime) {
 
 // A row says whether two texts write the same update, and has the two.
 const PAIRS: &str =
-    "true = MIGWMHYwdAwWc3BpZmZlOi8vZXhhbXBsZS5vcmcvYTAuAgEAMAUGAytlcAQiBCARERERERERERERERERERERERERERERERERERERERERETAqMAUGAytlcAMhAE0pFn8/GRKm9636KToFGhXAXsZ7jxcmexxVUNzoU70NMBwwGgwLZXhhbXBsZS5vcmcEC3sia2V5cyI6W119 = MIGhMHYwdAwWU1BJRkZFOi8vRXhhbXBsZS5PUkcvYTAuAgEAMAUGAytlcAQiBCARERERERERERERERERERERERERERERERERERERERERETAqMAUGAytlcAMhAE0pFn8/GRKm9636KToFGhXAXsZ7jxcmexxVUNzoU70NMCcwJQwWc3BpZmZlOi8vRVhBTVBMRS5vcmcveAQLeyJrZXlzIjpbXX0=
-false = MIGWMHYwdAwWc3BpZmZlOi8vZXhhbXBsZS5vcmcvYTAuAgEAMAUGAytlcAQiBCARERERERERERERERERERERERERERERERERERERERERETAqMAUGAytlcAMhAE0pFn8/GRKm9636KToFGhXAXsZ7jxcmexxVUNzoU70NMBwwGgwLZXhhbXBsZS5vcmcEC3sia2V5cyI6W119 = MIGYMHgwdgwWc3BpZmZlOi8vZXhhbXBsZS5vcmcvYTAwAgEAMAUGAytlcAQiBCAREREREREREREREREREREREREREREREREREREREREREaAAMCowBQYDK2VwAyEATSkWfz8ZEqb3rfopOgUaFcBexnuPFyZ7HFVQ3OhTvQ0wHDAaDAtleGFtcGxlLm9yZwQLeyJrZXlzIjpbXX0=
-true = MIGWMHYwdAwWc3BpZmZlOi8vZXhhbXBsZS5vcmcvYTAuAgEAMAUGAytlcAQiBCARERERERERERERERERERERERERERERERERERERERERETAqMAUGAytlcAMhAE0pFn8/GRKm9636KToFGhXAXsZ7jxcmexxVUNzoU70NMBwwGgwLZXhhbXBsZS5vcmcEC3sia2V5cyI6W119 = MIGaMHoweAwWc3BpZmZlOi8vZXhhbXBsZS5vcmcvYTAyAgEAMAUGAytlcAQiBCAREREREREREREREREREREREREREREREREREREREREREaECBQAwKjAFBgMrZXADIQBNKRZ/PxkSpvet+ik6BRoVwF7Ge48XJnscVVDc6FO9DTAcMBoMC2V4YW1wbGUub3JnBAt7ImtleXMiOltdfQ==
+    "true = MIGWMHYwdAwWc3BpZmZlOi8vZXhhbXBsZS5vcmcvYTAuAgEAMAUGAytlcAQiBCARERERERERERERERERERERERERERERERERERERERERETAqMAUGAytlcAMhAE0pFn8/\
+    GRKm9636KToFGhXAXsZ7jxcmexxVUNzoU70NMBwwGgwLZXhhbXBsZS5vcmcEC3sia2V5cyI6W119 = MIGhMHYwdAwWU1BJRkZFOi8vRXhhbXBsZS5PUkcvYTAuAgEAMAUGAytlc\
+    AQiBCARERERERERERERERERERERERERERERERERERERERERETAqMAUGAytlcAMhAE0pFn8/GRKm9636KToFGhXAXsZ7jxcmexxVUNzoU70NMCcwJQwWc3BpZmZlOi8vRVhBTVBMR\
+    S5vcmcveAQLeyJrZXlzIjpbXX0=
+false = MIGWMHYwdAwWc3BpZmZlOi8vZXhhbXBsZS5vcmcvYTAuAgEAMAUGAytlcAQiBCARERERERERERERERERERERERERERERERERERERERERETAqMAUGAytlcAMhAE0pFn8/GRKm\
+    9636KToFGhXAXsZ7jxcmexxVUNzoU70NMBwwGgwLZXhhbXBsZS5vcmcEC3sia2V5cyI6W119 = MIGYMHgwdgwWc3BpZmZlOi8vZXhhbXBsZS5vcmcvYTAwAgEAMAUGAytlcAQiB\
+    CAREREREREREREREREREREREREREREREREREREREREREaAAMCowBQYDK2VwAyEATSkWfz8ZEqb3rfopOgUaFcBexnuPFyZ7HFVQ3OhTvQ0wHDAaDAtleGFtcGxlLm9yZwQLeyJrZ\
+    XlzIjpbXX0=
+true = MIGWMHYwdAwWc3BpZmZlOi8vZXhhbXBsZS5vcmcvYTAuAgEAMAUGAytlcAQiBCARERERERERERERERERERERERERERERERERERERERERETAqMAUGAytlcAMhAE0pFn8/GRKm9\
+    636KToFGhXAXsZ7jxcmexxVUNzoU70NMBwwGgwLZXhhbXBsZS5vcmcEC3sia2V5cyI6W119 = MIGaMHoweAwWc3BpZmZlOi8vZXhhbXBsZS5vcmcvYTAyAgEAMAUGAytlcAQiBC\
+    AREREREREREREREREREREREREREREREREREREREREREaECBQAwKjAFBgMrZXADIQBNKRZ/PxkSpvet+ik6BRoVwF7Ge48XJnscVVDc6FO9DTAcMBoMC2V4YW1wbGUub3JnBAt7Im\
+    tleXMiOltdfQ==
 false = MCYwADAcMBoMC2V4YW1wbGUub3JnBAt7ImtleXMiOltdfYAEZ29uZQ== = MCYwADAcMBoMC2V4YW1wbGUub3JnBAt7ImtleXMiOltdfYAEbG9zdA==
 false = MCYwADAcMBoMC2V4YW1wbGUub3JnBAt7ImtleXMiOltdfYAEZ29uZQ== = MAowADAAgARnb25l";
 

@@ -1,4 +1,5 @@
-//! Texts that write updates. The documents are put together from the grammar by a few lines of Python, and written by its `base64`; keys are RFC 8410's, made by OpenSSL.
+//! Texts that write updates. The documents are put together from the grammar by a few lines of Python, and written by
+//! its `base64`; keys are RFC 8410's, made by OpenSSL.
 use super::lines_of;
 use crate::checks::{good, same_text, some};
 use identity_update::Update;
@@ -8,16 +9,29 @@ use std::process::Abort;
 // A row has a width; the first id without its scheme, the number of bundles and the reason; and a text, in which `,` stands
 // for LF and `;` for CR.
 const ROWS: &str =
-    "204 = example.org/a 1 None = MIGWMHYwdAwWc3BpZmZlOi8vZXhhbXBsZS5vcmcvYTAuAgEAMAUGAytlcAQiBCARERERERERERERERERERERERERERERERERERERERERETAqMAUGAytlcAMhAE0pFn8/GRKm9636KToFGhXAXsZ7jxcmexxVUNzoU70NMBwwGgwLZXhhbXBsZS5vcmcEC3sia2V5cyI6W119
-64 = example.org/a 1 None = MIGWMHYwdAwWc3BpZmZlOi8vZXhhbXBsZS5vcmcvYTAuAgEAMAUGAytlcAQiBCAR,ERERERERERERERERERERERERERERERERERERERERETAqMAUGAytlcAMhAE0pFn8/,GRKm9636KToFGhXAXsZ7jxcmexxVUNzoU70NMBwwGgwLZXhhbXBsZS5vcmcEC3si,a2V5cyI6W119
-64 = example.org/a 1 None = MIGWMHYwdAwWc3BpZmZlOi8vZXhhbXBsZS5vcmcvYTAuAgEAMAUGAytlcAQiBCAR;ERERERERERERERERERERERERERERERERERERERERETAqMAUGAytlcAMhAE0pFn8/,GRKm9636KToFGhXAXsZ7jxcmexxVUNzoU70NMBwwGgwLZXhhbXBsZS5vcmcEC3si;,a2V5cyI6W119
-300 = example.org/a 1 None = MIG7MIGaMIGXDBZzcGlmZmU6Ly9leGFtcGxlLm9yZy9hMFECAQEwBQYDK2VwBCIEIBERERERERERERERERERERERERERERERERERERERERERgSEATSkWfz8ZEqb3rfopOgUaFcBexnuPFyZ7HFVQ3OhTvQ0wKjAFBgMrZXADIQBNKRZ/PxkSpvet+ik6BRoVwF7Ge48XJnscVVDc6FO9DTAcMBoMC2V4YW1wbGUub3JnBAt7ImtleXMiOltdfQ==
-300 = example.org/a 1 None = MIGYMHgwdgwWc3BpZmZlOi8vZXhhbXBsZS5vcmcvYTAwAgEAMAUGAytlcAQiBCAREREREREREREREREREREREREREREREREREREREREREaAAMCowBQYDK2VwAyEATSkWfz8ZEqb3rfopOgUaFcBexnuPFyZ7HFVQ3OhTvQ0wHDAaDAtleGFtcGxlLm9yZwQLeyJrZXlzIjpbXX0=
-300 = example.org/a 1 None = MIGaMHoweAwWc3BpZmZlOi8vZXhhbXBsZS5vcmcvYTAyAgEAMAUGAytlcAQiBCAREREREREREREREREREREREREREREREREREREREREREaECBQAwKjAFBgMrZXADIQBNKRZ/PxkSpvet+ik6BRoVwF7Ge48XJnscVVDc6FO9DTAcMBoMC2V4YW1wbGUub3JnBAt7ImtleXMiOltdfQ==
-64 = example.org/A 1 None = MIGhMHYwdAwWU1BJRkZFOi8vRXhhbXBsZS5PUkcvQTAuAgEAMAUGAytlcAQiBCAR,ERERERERERERERERERERERERERERERERERERERERETAqMAUGAytlcAMhAE0pFn8/,GRKm9636KToFGhXAXsZ7jxcmexxVUNzoU70NMCcwJQwWc3BpZmZlOi8vRVhBTVBM,RS5vcmcveAQLeyJrZXlzIjpbXX0=
-400 = example.org/a 2 None = MIGzMHYwdAwWc3BpZmZlOi8vZXhhbXBsZS5vcmcvYTAuAgEAMAUGAytlcAQiBCARERERERERERERERERERERERERERERERERERERERERETAqMAUGAytlcAMhAE0pFn8/GRKm9636KToFGhXAXsZ7jxcmexxVUNzoU70NMDkwGwwLZXhhbXBsZS5vcmcEDHsia2V5cyI6W119IDAaDAtleGFtcGxlLm9yZwQLeyJrZXlzIjpbXX0=
+    "204 = example.org/a 1 None = MIGWMHYwdAwWc3BpZmZlOi8vZXhhbXBsZS5vcmcvYTAuAgEAMAUGAytlcAQiBCARERERERERERERERERERERERERERERERERERERERERET\
+    AqMAUGAytlcAMhAE0pFn8/GRKm9636KToFGhXAXsZ7jxcmexxVUNzoU70NMBwwGgwLZXhhbXBsZS5vcmcEC3sia2V5cyI6W119
+64 = example.org/a 1 None = MIGWMHYwdAwWc3BpZmZlOi8vZXhhbXBsZS5vcmcvYTAuAgEAMAUGAytlcAQiBCAR,ERERERERERERERERERERERERERERERERERERERERETAqMAU\
+    GAytlcAMhAE0pFn8/,GRKm9636KToFGhXAXsZ7jxcmexxVUNzoU70NMBwwGgwLZXhhbXBsZS5vcmcEC3si,a2V5cyI6W119
+64 = example.org/a 1 None = MIGWMHYwdAwWc3BpZmZlOi8vZXhhbXBsZS5vcmcvYTAuAgEAMAUGAytlcAQiBCAR;ERERERERERERERERERERERERERERERERERERERERETAqMAU\
+    GAytlcAMhAE0pFn8/,GRKm9636KToFGhXAXsZ7jxcmexxVUNzoU70NMBwwGgwLZXhhbXBsZS5vcmcEC3si;,a2V5cyI6W119
+300 = example.org/a 1 None = MIG7MIGaMIGXDBZzcGlmZmU6Ly9leGFtcGxlLm9yZy9hMFECAQEwBQYDK2VwBCIEIBERERERERERERERERERERERERERERERERERERERERERgSE\
+    ATSkWfz8ZEqb3rfopOgUaFcBexnuPFyZ7HFVQ3OhTvQ0wKjAFBgMrZXADIQBNKRZ/PxkSpvet+ik6BRoVwF7Ge48XJnscVVDc6FO9DTAcMBoMC2V4YW1wbGUub3JnBAt7ImtleXM\
+    iOltdfQ==
+300 = example.org/a 1 None = MIGYMHgwdgwWc3BpZmZlOi8vZXhhbXBsZS5vcmcvYTAwAgEAMAUGAytlcAQiBCAREREREREREREREREREREREREREREREREREREREREREaAAMCo\
+    wBQYDK2VwAyEATSkWfz8ZEqb3rfopOgUaFcBexnuPFyZ7HFVQ3OhTvQ0wHDAaDAtleGFtcGxlLm9yZwQLeyJrZXlzIjpbXX0=
+300 = example.org/a 1 None = MIGaMHoweAwWc3BpZmZlOi8vZXhhbXBsZS5vcmcvYTAyAgEAMAUGAytlcAQiBCAREREREREREREREREREREREREREREREREREREREREREaECBQA\
+    wKjAFBgMrZXADIQBNKRZ/PxkSpvet+ik6BRoVwF7Ge48XJnscVVDc6FO9DTAcMBoMC2V4YW1wbGUub3JnBAt7ImtleXMiOltdfQ==
+64 = example.org/A 1 None = MIGhMHYwdAwWU1BJRkZFOi8vRXhhbXBsZS5PUkcvQTAuAgEAMAUGAytlcAQiBCAR,ERERERERERERERERERERERERERERERERERERERERETAqMAU\
+    GAytlcAMhAE0pFn8/,GRKm9636KToFGhXAXsZ7jxcmexxVUNzoU70NMCcwJQwWc3BpZmZlOi8vRVhBTVBM,RS5vcmcveAQLeyJrZXlzIjpbXX0=
+400 = example.org/a 2 None = MIGzMHYwdAwWc3BpZmZlOi8vZXhhbXBsZS5vcmcvYTAuAgEAMAUGAytlcAQiBCARERERERERERERERERERERERERERERERERERERERERETAqMAU\
+    GAytlcAMhAE0pFn8/GRKm9636KToFGhXAXsZ7jxcmexxVUNzoU70NMDkwGwwLZXhhbXBsZS5vcmcEDHsia2V5cyI6W119IDAaDAtleGFtcGxlLm9yZwQLeyJrZXlzIjpbXX0=
 56 =  1 Some(\"gone\") = MCYwADAcMBoMC2V4YW1wbGUub3JnBAt7ImtleXMiOltdfYAEZ29uZQ==
-400 =  0 Some(\"rrrrrrrrrrrrrrrrrrrrrrrrrrrrrrrrrrrrrrrrrrrrrrrrrrrrrrrrrrrrrrrrrrrrrrrrrrrrrrrrrrrrrrrrrrrrrrrrrrrrrrrrrrrrrrrrrrrrrrrrrrrrrrrrrrrrrrrrrrrrrrrrrrrrrrrrrrrrrrrrrrrrrrrrrrrrrrrrrrrrrrrrrrrrrrrrrrrrrrrrrrrrrrrrrrrrrrrrrrrrrrrrrrrrrrrrrrrrrrrrrrrrrrrrrrrrrrr\") = MIIBBjAAMACAgf9ycnJycnJycnJycnJycnJycnJycnJycnJycnJycnJycnJycnJycnJycnJycnJycnJycnJycnJycnJycnJycnJycnJycnJycnJycnJycnJycnJycnJycnJycnJycnJycnJycnJycnJycnJycnJycnJycnJycnJycnJycnJycnJycnJycnJycnJycnJycnJycnJycnJycnJycnJycnJycnJycnJycnJycnJycnJycnJycnJycnJycnJycnJycnJycnJycnJycnJycnJycnJycnJycnJycnJycnJycnJycnJycnJycnJycnJycnJycnJycnJycnJycnJycnJycnJycnI=";
+400 =  0 Some(\"rrrrrrrrrrrrrrrrrrrrrrrrrrrrrrrrrrrrrrrrrrrrrrrrrrrrrrrrrrrrrrrrrrrrrrrrrrrrrrrrrrrrrrrrrrrrrrrrrrrrrrrrrrrrrrrrrrrrrrrrrrrr\
+     rrrrrrrrrrrrrrrrrrrrrrrrrrrrrrrrrrrrrrrrrrrrrrrrrrrrrrrrrrrrrrrrrrrrrrrrrrrrrrrrrrrrrrrrrrrrrrrrrrrrrrrrrrrrrrrrrrrrrrrrrrrrrrrrrrr\") \
+     = MIIBBjAAMACAgf9ycnJycnJycnJycnJycnJycnJycnJycnJycnJycnJycnJycnJycnJycnJycnJycnJycnJycnJycnJycnJycnJycnJycnJycnJycnJycnJycnJycnJycnJyc\
+     nJycnJycnJycnJycnJycnJycnJycnJycnJycnJycnJycnJycnJycnJycnJycnJycnJycnJycnJycnJycnJycnJycnJycnJycnJycnJycnJycnJycnJycnJycnJycnJycnJycnJy\
+     cnJycnJycnJycnJycnJycnJycnJycnJycnJycnJycnJycnJycnJycnJycnJycnJycnJycnJycnJycnJycnJycnI=";
 
 fn shown(rt: &impl Abort, alloc: Global, update: &Update) -> String {
     let bundles = update.bundles().len();

@@ -5,8 +5,8 @@ use base64ct::{Base64, Encoding};
 use der_core::{AnyRef, Encode, Error, Tag};
 use identity_update::{Update, UpdateError};
 use spiffe_bundle::JwtBundleError;
-use spiffe_json::JsonError;
 use spiffe_id::SpiffeIdError;
+use spiffe_json::JsonError;
 use std::alloc::Global;
 use std::process::Abort;
 

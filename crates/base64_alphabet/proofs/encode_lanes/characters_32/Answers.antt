@@ -12,9 +12,11 @@ turned_lanes-sum-requires-clause-reads g c = read_at _ _ _ c.loop-step-test.true
 
 pub loop-step-preserved : goal.loop-step-preserved
 loop-step-preserved g c = record {
-  sum = turn_step g.E.Alphabet.BASE _ _ _ _ _ _ c.loop-step-test.true (ap read_places c.encode_passes-step-items.ensures ∙ c.requires.passes) c.loop-step.invariant.sum c.turned_lanes-sum.ensures;
+  sum = turn_step g.E.Alphabet.BASE _ _ _ _ _ _ c.loop-step-test.true (ap read_places c.encode_passes-step-items.ensures ∙ c.requires.passes)
+      c.loop-step.invariant.sum c.turned_lanes-sum.ensures;
 }
 
 pub returns-clause-characters : goal.returns-clause-characters
-returns-clause-characters g c = turned_end_lanes g.E.Alphabet.BASE _ g.E.Alphabet.encode_steps _ g.E.Alphabet.table _ _ c.encode_passes-step-items.ensures c.loop-step-test.false g.met.E.Alphabet.encoder_answers
+returns-clause-characters g c = turned_end_lanes g.E.Alphabet.BASE _ g.E.Alphabet.encode_steps _ g.E.Alphabet.table _ _ c.encode_passes-step-items.ensures
+    c.loop-step-test.false g.met.E.Alphabet.encoder_answers
     (facts g.E.Alphabet.table g.met.E.Alphabet.lawful).ascii c.requires.below c.loop-step.invariant.sum

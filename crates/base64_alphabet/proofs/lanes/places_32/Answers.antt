@@ -11,4 +11,5 @@ loop-step-preserved g c = record {
 }
 
 pub returns-clause-places : goal.returns-clause-places
-returns-clause-places g c = pass_end _ g.E.Alphabet.decode_steps _ _ _ _ c.decode_passes-step-items.ensures c.loop-step-test.false g.met.E.Alphabet.decoder_answers c.fits-src c.loop-step.invariant.sum
+returns-clause-places g c = pass_end _ g.E.Alphabet.decode_steps _ _ _ _ c.decode_passes-step-items.ensures c.loop-step-test.false
+    g.met.E.Alphabet.decoder_answers c.fits-src c.loop-step.invariant.sum

@@ -12,5 +12,6 @@ returns-in_err-encode-clause-err g c =
     rw (p.1, p.2) (
       c.in_err-encode.ensures.err,
       rw (← inv.1, ← inv.2) (refused_sooner _ _ _ _ _ (flat_map (λ piece. piece.now) (drop (c.loop-piece.piece-index + 1) c.args.pieces.now)) _ _
-          (rw inv.2 c.requires) (one_more (λ piece. piece.now) c.args.pieces.now c.loop-piece.piece-index _ c.loop-piece.encoder.taken _ here inv.0) (λ le. let h : false ≡ true = c.in_err-encode.ensures.fits.1 le in cc)),
+          (rw inv.2 c.requires) (one_more (λ piece. piece.now) c.args.pieces.now c.loop-piece.piece-index _ c.loop-piece.encoder.taken _ here inv.0)
+          (λ le. let h : false ≡ true = c.in_err-encode.ensures.fits.1 le in cc)),
     )

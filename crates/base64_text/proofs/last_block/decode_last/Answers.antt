@@ -30,7 +30,8 @@ returns-then-decode_3bytes-ne0-clause-none g c b bytes is =
     let l = is_last g.E.Alphabet.end g.E.Alphabet.table g.E.Alphabet.PADDED c.args.last.now b f bytes c.requires.some c.requires.few is in
     let u : c.count_unpadded-u.result ≡ length b + 1 = c.count_unpadded-u.ensures.value ∙ ap (λ p. unpadded_len p c.args.last.now) c.PADDED.ensures ∙ l.len in
     let block : c.fill-block.result ≡ filled (length b + 1) c.args.last.now = c.fill-block.ensures ∙ ap (λ n. filled n c.args.last.now) u in
-    let zero : c.decode_3bytes.result ≡ pos 0 = c.decode_3bytes.ensures.answer ∙ ap (λ t. if t then pos 0 else pos 1) (ap (all_in g.E.Alphabet.table) block ∙ l.in_table) in
+    let zero : c.decode_3bytes.result ≡ pos 0 = c.decode_3bytes.ensures.answer
+    ∙ ap (λ t. if t then pos 0 else pos 1) (ap (all_in g.E.Alphabet.table) block ∙ l.in_table) in
     c.if-decode_3bytes-ne0.true (ap (of_z w16) zero)
 
 pub returns-else-eq-clause-none : goal.returns-else-eq-clause-none

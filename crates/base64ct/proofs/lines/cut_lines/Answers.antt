@@ -12,7 +12,8 @@ returns-in_default-clause-none c =
 pub loop-cut-preserved : goal.loop-cut-preserved
 loop-cut-preserved c =
     let behind = c.in-Some.ensures.some in
-    let more = cut_more c.args.width c.loop-cut.cut.count c.args.text.now c.loop-cut.cut.line.now c.loop-cut.cut.rest.now c.loop-cut.invariant c.loop-cut-test.true
+    let more = cut_more c.args.width c.loop-cut.cut.count c.args.text.now c.loop-cut.cut.line.now c.loop-cut.cut.rest.now c.loop-cut.invariant
+    c.loop-cut-test.true
     (ap starts_with_ending (sym c.split_at.ensures.back) ∙ behind.0) in
     subst (λ (us : List ℕ). IsCut c.args.width (c.loop-cut.cut.count + c.args.width) c.args.text.now us c.in-Some.rest.now) (sym c.split_at.ensures.front)
     (subst (λ (us : List ℕ). IsCut c.args.width (c.loop-cut.cut.count + c.args.width) c.args.text.now (take c.args.width c.loop-cut.cut.rest.now) us)

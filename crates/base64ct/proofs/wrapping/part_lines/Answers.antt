@@ -21,11 +21,13 @@ pub loop-read-preserved : goal.loop-read-preserved
 loop-read-preserved c =
     let begun : IsParted c.args.lines.width (ending_bytes c.args.lines.ending)
     (take c.args.at c.args.out.now ++ wrapped_from c.args.lines.width (ending_bytes c.args.lines.ending) c.args.lines.left (drop c.args.from c.args.out.now))
-    (left_from c.args.lines.width c.args.lines.left (drop c.args.from c.args.out.now)) c.if-left-eq0.out c.loop-read.read c.if-left-eq0.written c.if-left-eq0.left
+    (left_from c.args.lines.width c.args.lines.left (drop c.args.from c.args.out.now)) c.if-left-eq0.out c.loop-read.read c.if-left-eq0.written
+    c.if-left-eq0.left
     = elim c.if-left-eq0.branch [
       | then-left-eq0 w ↦ (let line = parted_line _ _ _ _ _ w.put.new.out _ _ _ c.loop-read.invariant c.requires.width w.if-left-eq0.true c.loop-read-test.true
           w.put.auto.out (rw w.as_bytes.ensures at w.put.ensures.front) w.put.ensures.back in
           rw (w.out-is, w.written-is, w.left-is, w.len-written.ensures) line)
       | else-left-eq0 w ↦ rw (w.out-is, w.written-is, w.left-is) c.loop-read.invariant
     ] in
-    parted_run _ _ _ _ _ c.move_down.new.out _ _ _ c.min-run.result begun (omega arith) (omega arith) c.move_down.auto.out c.move_down.ensures.front c.move_down.ensures.back
+    parted_run _ _ _ _ _ c.move_down.new.out _ _ _ c.min-run.result begun (omega arith) (omega arith) c.move_down.auto.out c.move_down.ensures.front
+    c.move_down.ensures.back

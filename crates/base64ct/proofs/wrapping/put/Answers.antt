@@ -5,4 +5,5 @@ use Rattle.base64ct.proofs.wrapping.put.Goals as goal
 pub returns-clause-back : goal.returns-clause-back
 returns-clause-back c =
     let len = ap length c.copy_from_slice.ensures.after in
-    drop-put_mid c.args.at (c.args.at + length c.args.bytes.now - c.args.at) c.args.out.now c.copy_from_slice.new.self c.args.kept (omega arith) (omega arith) (omega arith)
+    drop-put_mid c.args.at (c.args.at + length c.args.bytes.now - c.args.at) c.args.out.now c.copy_from_slice.new.self c.args.kept (omega arith)
+    (omega arith) (omega arith)

@@ -22,7 +22,8 @@ before-requires c =
     let s = sizes c.args.document.now c.args.written.now (behind c.args.bundles.now c.args.reason) c.requires.is in
     let inner = around c.list_of-list.result c.args.written.now c.args.bundles.now c.args.reason c.list_of-list.ensures in
     let content : c.in-Ok.content ≡ length (encode 48 c.args.written.now ++ behind c.args.bundles.now c.args.reason) = c.in-Ok.ensures.0 ∙ ap length inner in
-    let list : c.len_of.result ≡ length (encode 48 c.args.written.now) = c.len_of.ensures ∙ ap length (list_is c.list_of-list.result c.args.written.now c.list_of-list.ensures) in
+    let list : c.len_of.result ≡ length (encode 48 c.args.written.now) = c.len_of.ensures
+    ∙ ap length (list_is c.list_of-list.result c.args.written.now c.list_of-list.ensures) in
     omega (arith, s, content, list, c.get.ensures)
 
 pub returns : goal.returns
@@ -30,7 +31,9 @@ returns c =
     let s = sizes c.args.document.now c.args.written.now (behind c.args.bundles.now c.args.reason) c.requires.is in
     let inner = around c.list_of-list.result c.args.written.now c.args.bundles.now c.args.reason c.list_of-list.ensures in
     let content : c.in-Ok.content ≡ length (encode 48 c.args.written.now ++ behind c.args.bundles.now c.args.reason) = c.in-Ok.ensures.0 ∙ ap length inner in
-    let list : c.len_of.result ≡ length (encode 48 c.args.written.now) = c.len_of.ensures ∙ ap length (list_is c.list_of-list.result c.args.written.now c.list_of-list.ensures) in
+    let list : c.len_of.result ≡ length (encode 48 c.args.written.now) = c.len_of.ensures
+    ∙ ap length (list_is c.list_of-list.result c.args.written.now c.list_of-list.ensures) in
     let sum = length-append (encode 48 c.args.written.now) (behind c.args.bundles.now c.args.reason) in
     let end = c.before-2.ensures.end in
-    entries_found c.args.document.now c.args.written.now (behind c.args.bundles.now c.args.reason) c.before-2.result c.requires.is (omega (arith, s, content, list, c.get.ensures, sum, end)) c.before-2.ensures.start
+    entries_found c.args.document.now c.args.written.now (behind c.args.bundles.now c.args.reason) c.before-2.result c.requires.is
+    (omega (arith, s, content, list, c.get.ensures, sum, end)) c.before-2.ensures.start

@@ -8,6 +8,7 @@ use Rattle.identity_update.proofs.bundle_rules.check_bundles.Given as goal
 
 abbrev pub invariant-loop-number : goal.invariant-loop-number
 invariant-loop-number l = record {
-  checked : map_ok (λ more. map plain_bundle l.parts.items ++ more) (bundles_check l.number (map written_bundle (drop l.number l.bundles))) ≡ bundles_check 0 (map written_bundle l.fn.bundles);
+  checked : map_ok (λ more. map plain_bundle l.parts.items ++ more) (bundles_check l.number (map written_bundle (drop l.number l.bundles)))
+      ≡ bundles_check 0 (map written_bundle l.fn.bundles);
   set : l.set ≡ bundle_map (map plain_bundle l.parts.items);
 }

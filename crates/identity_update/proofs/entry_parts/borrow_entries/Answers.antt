@@ -7,6 +7,8 @@ pub loop-entry-preserved : goal.loop-entry-preserved
 loop-entry-preserved c =
     let pushed : c.push.new.self.items ≡ c.loop-entry.borrowed.items ++ c.in_ok-borrow_entry.field-0 ∷ [] = search rules in
     record {
-      borrowed = borrowed_more c.loop-entry.entry-index c.args.entries.now c.entry-item.result c.loop-entry.borrowed.items c.push.new.self.items c.in_ok-borrow_entry.field-0 c.loop-entry-test.true c.entry-item.is c.in_ok-borrow_entry.ensures.ok pushed c.loop-entry.invariant.borrowed;
-      ids = all_more plain_entry _ c.loop-entry.entry-index c.args.entries.now c.entry-item.result c.loop-entry-test.true c.entry-item.is c.loop-entry.invariant.ids c.borrow_entry.ensures.id;
+      borrowed = borrowed_more c.loop-entry.entry-index c.args.entries.now c.entry-item.result c.loop-entry.borrowed.items c.push.new.self.items
+          c.in_ok-borrow_entry.field-0 c.loop-entry-test.true c.entry-item.is c.in_ok-borrow_entry.ensures.ok pushed c.loop-entry.invariant.borrowed;
+      ids = all_more plain_entry _ c.loop-entry.entry-index c.args.entries.now c.entry-item.result c.loop-entry-test.true c.entry-item.is
+          c.loop-entry.invariant.ids c.borrow_entry.ensures.id;
     }

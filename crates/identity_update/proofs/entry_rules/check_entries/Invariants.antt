@@ -6,7 +6,8 @@ use Rattle.identity_update.proofs.EntryLaws.{EntriesSoFar}
 use Rattle.identity_update.proofs.entry_rules.check_entries.Given as goal
 
 abbrev pub invariant-loop-entry : goal.invariant-loop-entry
-invariant-loop-entry l = EntriesSoFar l.writer.bytes.items l.kept.items (map written_entry (reverse l.left.items)) (entries_check 0 (map written_entry l.fn.entries.items))
+invariant-loop-entry l = EntriesSoFar l.writer.bytes.items l.kept.items (map written_entry (reverse l.left.items))
+    (entries_check 0 (map written_entry l.fn.entries.items))
 
 abbrev pub decreases-loop-entry : goal.decreases-loop-entry
 decreases-loop-entry l = vec_len l.left

@@ -35,7 +35,8 @@ returns-in_err-check_members-clause-refusal c =
     let domains = set_has_domains c.in_ok-set.set u.bundles set in
     let same = ap (λ (es : List Entry). members_check 0 u.bundles es) c.in_ok-entries.ensures.value in
     passed_on (IsRefusal (parts_verdict u)) _ c.in_err-check_members.field-0.0 c.from_residual-in_err-check_members.ensures.1
-    (inl (parts_judged u (Err c.in_err-check_members.field-0.0) holds (sym same ∙ sym (rw c.deref-5.ensures.value at (c.in_err-check_members.ensures written u.bundles domains)))))
+    (inl (parts_judged u (Err c.in_err-check_members.field-0.0) holds
+    (sym same ∙ sym (rw c.deref-5.ensures.value at (c.in_err-check_members.ensures written u.bundles domains)))))
 
 pub assemble-requires : goal.assemble-requires
 assemble-requires c =
@@ -50,8 +51,14 @@ assemble-requires c =
     let set = rw c.deref-4.ensures.value at c.in_ok-set.ensures.set in
     let domains = set_has_domains c.in_ok-set.set u.bundles set in
     let same = ap (λ (es : List Entry). members_check 0 u.bundles es) c.in_ok-entries.ensures.value in
-    let members : members_check 0 u.bundles u.entries ≡ Ok tt = sym same ∙ sym (rw c.deref-5.ensures.value at (c.in_ok-check_members.ensures written u.bundles domains)) in
-    let p : LawfulParts = record { entries = c.in_ok-entries.entries; bundles = record { parts = c.args.bundles; set = c.in_ok-set.set }; reason = c.in_ok-reason.reason } in
+    let members : members_check 0 u.bundles u.entries ≡ Ok tt = sym same
+    ∙ sym (rw c.deref-5.ensures.value at (c.in_ok-check_members.ensures written u.bundles domains)) in
+    let p : LawfulParts = record {
+      entries = c.in_ok-entries.entries;
+      bundles = record { parts = c.args.bundles; set = c.in_ok-set.set };
+      reason =
+          c.in_ok-reason.reason;
+    } in
     let is = update_is p u c.in_ok-entries.ensures.value refl c.in_ok-reason.ensures.ok in
     let lawful = parts_lawful u holds members c.requires.ids (rw c.deref-4.ensures.value at c.in_ok-set.ensures.domains) c.requires.reason in
     given_parts p u is lawful (parts_fit u holds.fits) c.in_ok-entries.ensures.kept set
@@ -69,8 +76,14 @@ returns-clause-value c =
     let set = rw c.deref-4.ensures.value at c.in_ok-set.ensures.set in
     let domains = set_has_domains c.in_ok-set.set u.bundles set in
     let same = ap (λ (es : List Entry). members_check 0 u.bundles es) c.in_ok-entries.ensures.value in
-    let members : members_check 0 u.bundles u.entries ≡ Ok tt = sym same ∙ sym (rw c.deref-5.ensures.value at (c.in_ok-check_members.ensures written u.bundles domains)) in
-    let p : LawfulParts = record { entries = c.in_ok-entries.entries; bundles = record { parts = c.args.bundles; set = c.in_ok-set.set }; reason = c.in_ok-reason.reason } in
+    let members : members_check 0 u.bundles u.entries ≡ Ok tt = sym same
+    ∙ sym (rw c.deref-5.ensures.value at (c.in_ok-check_members.ensures written u.bundles domains)) in
+    let p : LawfulParts = record {
+      entries = c.in_ok-entries.entries;
+      bundles = record { parts = c.args.bundles; set = c.in_ok-set.set };
+      reason =
+          c.in_ok-reason.reason;
+    } in
     let is = update_is p u c.in_ok-entries.ensures.value refl c.in_ok-reason.ensures.ok in
     let answer : UpdateParts → Result UpdateParts UpdateError = λ v. Ok v in
     value_is c.assemble.result (parts_verdict u) (update_of p) c.assemble.ensures.value (parts_judged u (Ok tt) holds members ∙ ap answer (sym is))

@@ -7,7 +7,8 @@ use Rattle.identity_update.proofs.places.append.Goals as goal
 pub overflow_cast-end : goal.overflow_cast-end
 overflow_cast-end c =
     let fits = c.requires.fits in
-    let long = ap length (c.in-Ok.ensures.wrote.ok.1 c.args.writer.now.bytes.items refl) ∙ length-append c.args.writer.now.bytes.items (entry_der (checked_entry c.args.entry)) in
+    let long = ap length (c.in-Ok.ensures.wrote.ok.1 c.args.writer.now.bytes.items refl)
+    ∙ length-append c.args.writer.now.bytes.items (entry_der (checked_entry c.args.entry)) in
     let end : c.len-end.result ≡ length c.encode.new.writer.bytes.items = grind (arith, common_steps) in
     omega arith
 

@@ -11,17 +11,21 @@ held_len-requires c = let fits = behind_fits c.args.document.now (checked_entry 
 
 pub len_of-requires : goal.len_of-requires
 len_of-requires c =
-    subst (λ (b : List ℕ). length b < 2 ^ 32) (sym (public_key_seen c.args.entry.now.public_key)) (tail_fits c.args.document.now (entry_der (checked_entry c.args.entry.now)) (public_key_der (checked_entry c.args.entry.now).public_key) c.args.end c.requires.stands (public_end (checked_entry c.args.entry.now)) c.requires.small)
+    subst (λ (b : List ℕ). length b < 2 ^ 32) (sym (public_key_seen c.args.entry.now.public_key))
+    (tail_fits c.args.document.now (entry_der (checked_entry c.args.entry.now)) (public_key_der (checked_entry c.args.entry.now).public_key) c.args.end
+    c.requires.stands (public_end (checked_entry c.args.entry.now)) c.requires.small)
 
 pub overflow_add-result : goal.overflow_add-result
 overflow_add-result c =
     let fits = behind_fits c.args.document.now (checked_entry c.args.entry.now) c.args.end c.requires.stands c.requires.small in
-    let same : length (public_key_encoding c.args.entry.now.public_key) ≡ length (public_key_der (checked_entry c.args.entry.now).public_key) = ap length (public_key_seen c.args.entry.now.public_key) in
+    let same : length (public_key_encoding c.args.entry.now.public_key) ≡ length (public_key_der (checked_entry c.args.entry.now).public_key) =
+    ap length (public_key_seen c.args.entry.now.public_key) in
     omega (arith, fits, same, c.held_len.ensures, c.len_of.ensures)
 
 pub returns : goal.returns
 returns c =
     let e = checked_entry c.args.entry.now in
     let sum = length-append (held_field e.private_key.public_key) (public_key_der e.public_key) in
-    let same : length (public_key_encoding c.args.entry.now.public_key) ≡ length (public_key_der (checked_entry c.args.entry.now).public_key) = ap length (public_key_seen c.args.entry.now.public_key) in
+    let same : length (public_key_encoding c.args.entry.now.public_key) ≡ length (public_key_der (checked_entry c.args.entry.now).public_key) =
+    ap length (public_key_seen c.args.entry.now.public_key) in
     omega (arith, sum, same, c.held_len.ensures, c.len_of.ensures)

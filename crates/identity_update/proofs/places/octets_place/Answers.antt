@@ -6,7 +6,8 @@ use Rattle.identity_update.proofs.PlacesLaws.{behind_fits, entry_der, found_in, 
 use Rattle.identity_update.proofs.places.octets_place.Goals as goal
 
 pub attributes_len-attributes-requires : goal.attributes_len-attributes-requires
-attributes_len-attributes-requires c = let fits = behind_fits c.args.document.now (checked_entry c.args.entry.now) c.args.end c.requires.stands c.requires.small in omega arith
+attributes_len-attributes-requires c = let fits = behind_fits c.args.document.now (checked_entry c.args.entry.now) c.args.end c.requires.stands
+    c.requires.small in omega arith
 
 pub overflow_add-attributes : goal.overflow_add-attributes
 overflow_add-attributes c =

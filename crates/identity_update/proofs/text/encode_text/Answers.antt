@@ -21,7 +21,11 @@ returns-in_err-encoder-clause-refusal c =
     let some = room_some c.args.width c.args.ending c.args.bytes.now c.encoded_len.result is c.requires.some in
     let room : c.in-Some.room ≡ wrapped_len c.args.width c.args.ending c.encoded_len.result = c.in-Some.ensures.len in
     let size : length c.deref_mut.result.now ≡ c.in-Some.room = grind (arith, common_steps) in
-    let bad : ⊥ = elim c.in_err-encoder.ensures.err.1 [ inl narrow ↦ omega (arith, c.if-width-lt4.false) | inr empty ↦ omega (arith, empty, size, room, some) ] in
+    let bad : ⊥ = elim c.in_err-encoder.ensures.err.1 [
+      | inl narrow ↦ omega (arith, c.if-width-lt4.false)
+      | inr empty ↦ omega
+          (arith, empty, size, room, some)
+    ] in
     absurd bad
 
 pub returns-in_err-encode-clause-refusal : goal.returns-in_err-encode-clause-refusal
@@ -41,4 +45,5 @@ pub returns-clause-writes : goal.returns-clause-writes
 returns-clause-writes c =
     let bytes : IsBytes c.args.bytes.now = λ k d lt. rw (get_or_default_zero c.args.bytes.now k d lt) ((c.type_inv.bytes k).fits) in
     let is : string_bytes c.in_ok-text.text ≡ text_of c.args.width c.args.ending c.args.bytes.now = first_of (search rules, grind (arith, common_steps)) in
-    text_writes c.args.width c.args.ending c.args.bytes.now (string_bytes c.in_ok-text.text) c.wrapped_encoding_is_read_back.ensures c.if-width-lt4.false c.requires.some bytes is
+    text_writes c.args.width c.args.ending c.args.bytes.now (string_bytes c.in_ok-text.text) c.wrapped_encoding_is_read_back.ensures c.if-width-lt4.false
+    c.requires.some bytes is

@@ -25,7 +25,8 @@ returns-in_err-check_members-clause-refusal c =
     let domains = set_has_domains c.in_ok-bundles.bundles.set bs c.in_ok-bundles.ensures.set in
     let purpose = purpose_map written_entry c.args.document.entries.items w.reason ∙ sym (rw c.deref.ensures.value at c.in_ok-check_purpose.ensures) in
     passed_on (IsRefusal (verdict w)) _ c.in_err-check_members.field-0.0 c.from_residual-in_err-check_members.ensures.1
-    (inl (judged_refused w es bs c.in_err-check_members.field-0.0 purpose c.in_ok-entries.ensures.ok (rw c.deref-2.ensures.value at c.in_ok-bundles.ensures.ok) (sym (rw c.deref-3.ensures.value at (c.in_err-check_members.ensures written bs domains)))))
+    (inl (judged_refused w es bs c.in_err-check_members.field-0.0 purpose c.in_ok-entries.ensures.ok
+    (rw c.deref-2.ensures.value at c.in_ok-bundles.ensures.ok) (sym (rw c.deref-3.ensures.value at (c.in_err-check_members.ensures written bs domains)))))
 
 pub returns-clause-value : goal.returns-clause-value
 returns-clause-value c =
@@ -34,7 +35,8 @@ returns-clause-value c =
     let bs : List Bundle = map plain_bundle c.in_ok-bundles.bundles.parts.items in
     let domains = set_has_domains c.in_ok-bundles.bundles.set bs c.in_ok-bundles.ensures.set in
     let purpose = purpose_map written_entry c.args.document.entries.items w.reason ∙ sym (rw c.deref.ensures.value at c.in_ok-check_purpose.ensures) in
-    judged_parts w p purpose c.in_ok-entries.ensures.ok (rw c.deref-2.ensures.value at c.in_ok-bundles.ensures.ok) (sym (rw c.deref-3.ensures.value at (c.in_ok-check_members.ensures c.in_ok-entries.entries.written.items bs domains))) c.in_ok-reason.ensures.ok
+    judged_parts w p purpose c.in_ok-entries.ensures.ok (rw c.deref-2.ensures.value at c.in_ok-bundles.ensures.ok)
+    (sym (rw c.deref-3.ensures.value at (c.in_ok-check_members.ensures c.in_ok-entries.entries.written.items bs domains))) c.in_ok-reason.ensures.ok
 
 pub returns-clause-lawful : goal.returns-clause-lawful
 returns-clause-lawful c =
@@ -43,5 +45,6 @@ returns-clause-lawful c =
     let bs : List Bundle = map plain_bundle c.in_ok-bundles.bundles.parts.items in
     let domains = set_has_domains c.in_ok-bundles.bundles.set bs c.in_ok-bundles.ensures.set in
     let purpose = purpose_map written_entry c.args.document.entries.items w.reason ∙ sym (rw c.deref.ensures.value at c.in_ok-check_purpose.ensures) in
-    let is = judged_parts w p purpose c.in_ok-entries.ensures.ok (rw c.deref-2.ensures.value at c.in_ok-bundles.ensures.ok) (sym (rw c.deref-3.ensures.value at (c.in_ok-check_members.ensures c.in_ok-entries.entries.written.items bs domains))) c.in_ok-reason.ensures.ok in
+    let is = judged_parts w p purpose c.in_ok-entries.ensures.ok (rw c.deref-2.ensures.value at c.in_ok-bundles.ensures.ok)
+    (sym (rw c.deref-3.ensures.value at (c.in_ok-check_members.ensures c.in_ok-entries.entries.written.items bs domains))) c.in_ok-reason.ensures.ok in
     are_lawful_parts w p is c.requires.reason c.requires.fits c.in_ok-entries.ensures.kept c.in_ok-bundles.ensures.set

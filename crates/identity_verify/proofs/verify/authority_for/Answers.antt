@@ -12,6 +12,7 @@ returns-clause-err g c =
     let d : c.trust_domain.result.now ≡ svid.spiffe_id.trust_domain = c.trust_domain.ensures ∙ ap (λ i. i.trust_domain) c.spiffe_id.ensures.id in
     let one = rw c.alg.ensures at c.in_ok-check_supported.ensures in
     let two = rw (d, ← c.deref.ensures) at c.in_ok-bundle.ensures.ok in
-    let same = two_hold (supported_rule svid.alg) (bundle_rule svid.spiffe_id.trust_domain (source svid.spiffe_id.trust_domain)) (key_id_rule svid.key_id) c.in_ok-check_supported.field-0 c.deref.result.now one two in
+    let same = two_hold (supported_rule svid.alg) (bundle_rule svid.spiffe_id.trust_domain (source svid.spiffe_id.trust_domain)) (key_id_rule svid.key_id)
+    c.in_ok-check_supported.field-0 c.deref.result.now one two in
     let found = rw c.key_id.ensures at c.find_authority.ensures.err in
     rw same found

@@ -4,4 +4,5 @@ use Rattle.identity_verify.proofs.verify.has_audience.Given as goal
 
 abbrev pub invariant-loop-audience : goal.invariant-loop-audience
 invariant-loop-audience l =
-    has_audience (map string_bytes l.expected) (map string_bytes l.audiences) ≡ has_audience (map string_bytes l.expected) (map string_bytes (drop l.audience-index l.audiences))
+    has_audience (map string_bytes l.expected) (map string_bytes l.audiences)
+    ≡ has_audience (map string_bytes l.expected) (map string_bytes (drop l.audience-index l.audiences))

@@ -5,4 +5,5 @@ use Rattle.pack_manifest.specs.Views.{named_entry}
 use Rattle.pack_manifest.proofs.manifest.entries_in.Given as goal
 
 abbrev pub invariant-loop-item : goal.invariant-loop-item
-invariant-loop-item l = entries_in (items_view l.items) ≡ option_map (λ more. map named_entry l.entries.items ++ more) (entries_in (items_view (drop l.item-index l.items)))
+invariant-loop-item l = entries_in (items_view l.items) ≡ option_map (λ more. map named_entry l.entries.items ++ more)
+    (entries_in (items_view (drop l.item-index l.items)))

@@ -12,6 +12,8 @@ pub returns-in-Err-public_key : goal.returns-in-Err-public_key
 returns-in-Err-public_key g c =
     let e = named_entry c.args.named.now in
     let key = plain_private_key c.in-Ok.key in
-    held plain_private_key plain_entry (λ files. PrivateKeyRule files c.args.entry e.key) (λ files key. Mapped (entry_of c.args.id key) (PublicKeyRule files c.args.entry e.public_key key))
+    held plain_private_key plain_entry (λ files. PrivateKeyRule files c.args.entry e.key)
+    (λ files key. Mapped (entry_of c.args.id key) (PublicKeyRule files c.args.entry e.public_key key))
     c.in-Ok.key (Err c.in-Err-public_key.error) c.in-Ok.ensures
-    (mapped_error plain_public_key plain_entry (entry_of c.args.id key) (λ files. PublicKeyRule files c.args.entry e.public_key key) c.in-Err-public_key.error c.in-Err-public_key.ensures)
+    (mapped_error plain_public_key plain_entry (entry_of c.args.id key) (λ files. PublicKeyRule files c.args.entry e.public_key key)
+    c.in-Err-public_key.error c.in-Err-public_key.ensures)

@@ -13,7 +13,8 @@ returns-in-Ok g c = record {
 
 pub returns-in-Err-Missing : goal.returns-in-Err-Missing
 returns-in-Err-Missing g c = record {
-  told = λ files is. inr (inr (whole_missing c.args.missing c.args.too_long (file_at c.args.path.now files) ((rw c.in-Err-Missing.field-0-is at c.in-Err-Missing.ensures.read) files is)));
+  told = λ files is. inr (inr (whole_missing c.args.missing c.args.too_long (file_at c.args.path.now files)
+      ((rw c.in-Err-Missing.field-0-is at c.in-Err-Missing.ensures.read) files is)));
   kept = c.in-Err-Missing.ensures.kept;
   later = c.in-Err-Missing.ensures.cause.later;
   fault = λ is. absurd (c.requires.missing is);
@@ -21,7 +22,8 @@ returns-in-Err-Missing g c = record {
 
 pub returns-in-Err-TooLong : goal.returns-in-Err-TooLong
 returns-in-Err-TooLong g c = record {
-  told = λ files is. inr (inr (whole_too_long c.args.missing c.args.too_long (file_at c.args.path.now files) ((rw c.in-Err-TooLong.field-0-is at c.in-Err-TooLong.ensures.read) files is)));
+  told = λ files is. inr (inr (whole_too_long c.args.missing c.args.too_long (file_at c.args.path.now files)
+      ((rw c.in-Err-TooLong.field-0-is at c.in-Err-TooLong.ensures.read) files is)));
   kept = c.in-Err-TooLong.ensures.kept;
   later = c.in-Err-TooLong.ensures.cause.later;
   fault = λ is. absurd (c.requires.too_long is);

@@ -8,9 +8,11 @@ pub returns : goal.returns
 returns g c = λ same v fits.
     written_key _ _
     (record {
-      algorithm = tagged_encoding_reads 48 _ _ (algorithm_content_reads g.Params.Decode.Reads g.Params.Encode.encoding (g.met.Params.Lawful c.lifetimes (search rules)).encoding_reads);
+      algorithm = tagged_encoding_reads 48 _ _ (algorithm_content_reads g.Params.Decode.Reads g.Params.Encode.encoding
+          (g.met.Params.Lawful c.lifetimes (search rules)).encoding_reads);
       private_key = tagged_encoding_reads g.Key.FixedTag.tag _ _ (g.met.Key.LawfulValue c.lifetimes (search rules)).content_reads;
       attributes = (g.met.Attrs.LawfulValue c.lifetimes (search rules)).content_reads;
-      public_key = λ k short. subst (λ (x : List ℕ). g.PubKey.DecodeValue.HasContent x k) (sym (same k)) ((g.met.PubKey.LawfulValue c.lifetimes (search rules)).content_reads k (subst (λ (x : List ℕ). length x < 2 ^ 32) (same k) short));
+      public_key = λ k short. subst (λ (x : List ℕ). g.PubKey.DecodeValue.HasContent x k) (sym (same k))
+          ((g.met.PubKey.LawfulValue c.lifetimes (search rules)).content_reads k (subst (λ (x : List ℕ). length x < 2 ^ 32) (same k) short));
     })
     v fits

@@ -6,11 +6,13 @@ use Rattle.pkcs8.proofs.tail.after_attributes.Goals as goal
 
 pub returns-in_default-decode_value-clause-none : goal.returns-in_default-decode_value-clause-none
 returns-in_default-decode_value-clause-none g c = λ k e a.
-    let f = public_field g.PubKey.DecodeValue.HasContent c.args.bytes.now c.in-Some.content.now c.in-Some.rest.now (rw c.from_valid.ensures at c.in-Some.ensures.value) (rw c.from_valid.ensures at c.in-Some.ensures.fits) k (e ∙ c.in-V2.is) a in
+    let f = public_field g.PubKey.DecodeValue.HasContent c.args.bytes.now c.in-Some.content.now c.in-Some.rest.now
+    (rw c.from_valid.ensures at c.in-Some.ensures.value) (rw c.from_valid.ensures at c.in-Some.ensures.fits) k (e ∙ c.in-V2.is) a in
     c.in_default-decode_value.ensures.none f.key (rw c.new.ensures f.has)
 
 pub returns-then-not-are_extensions-2-clause-none : goal.returns-then-not-are_extensions-2-clause-none
 returns-then-not-are_extensions-2-clause-none g c = λ k e a.
-    let f = public_field g.PubKey.DecodeValue.HasContent c.args.bytes.now c.in-Some.content.now c.in-Some.rest.now (rw c.from_valid.ensures at c.in-Some.ensures.value) (rw c.from_valid.ensures at c.in-Some.ensures.fits) k (e ∙ c.in-V2.is) a in
+    let f = public_field g.PubKey.DecodeValue.HasContent c.args.bytes.now c.in-Some.content.now c.in-Some.rest.now
+    (rw c.from_valid.ensures at c.in-Some.ensures.value) (rw c.from_valid.ensures at c.in-Some.ensures.fits) k (e ∙ c.in-V2.is) a in
     let next : IsExtensions c.in-Some.rest.now = f.next in
     unless _ c.are_extensions-in-V2.ensures c.if-not-are_extensions-2.true next

@@ -13,5 +13,7 @@ tells r s t v w is first second law = (
 
 pub returns-clause-same : goal.returns-clause-same
 returns-clause-same c =
-    tells c.eq.result c.as_str.result.now c.as_str-2.result.now c.args.a.now c.args.b.now c.eq.ensures (c.as_str.ensures.value ∙ c.in_ok-first.ensures.ok) (c.as_str-2.ensures.value ∙ c.in_ok-second.ensures.ok)
-    (same_text-same_id c.args.a.now c.args.b.now c.trust_domain_name.ensures.valid c.path.ensures.valid c.trust_domain_name-2.ensures.valid c.path-2.ensures.valid)
+    tells c.eq.result c.as_str.result.now c.as_str-2.result.now c.args.a.now c.args.b.now c.eq.ensures (c.as_str.ensures.value ∙ c.in_ok-first.ensures.ok)
+    (c.as_str-2.ensures.value ∙ c.in_ok-second.ensures.ok)
+    (same_text-same_id c.args.a.now c.args.b.now c.trust_domain_name.ensures.valid c.path.ensures.valid c.trust_domain_name-2.ensures.valid
+    c.path-2.ensures.valid)

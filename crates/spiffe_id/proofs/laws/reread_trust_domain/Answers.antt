@@ -6,10 +6,12 @@ use Rattle.spiffe_id.proofs.laws.reread_trust_domain.Goals as goal
 
 pub returns-clause-same : goal.returns-clause-same
 returns-clause-same c =
-    let reads : trust_domain_of c.as_str.result.now ≡ Ok c.args.domain.now = rw c.as_str.ensures.name (trust_domain_of-name c.args.domain.now c.as_str.ensures.valid) in
+    let reads : trust_domain_of c.as_str.result.now ≡ Ok c.args.domain.now =
+    rw c.as_str.ensures.name (trust_domain_of-name c.args.domain.now c.as_str.ensures.valid) in
     reread_value _ _ reads c.new.result c.new.ensures.ok
 
 pub returns-clause-memory : goal.returns-clause-memory
 returns-clause-memory c =
-    let reads : trust_domain_of c.as_str.result.now ≡ Ok c.args.domain.now = rw c.as_str.ensures.name (trust_domain_of-name c.args.domain.now c.as_str.ensures.valid) in
+    let reads : trust_domain_of c.as_str.result.now ≡ Ok c.args.domain.now =
+    rw c.as_str.ensures.name (trust_domain_of-name c.args.domain.now c.as_str.ensures.valid) in
     reread_refusal _ _ reads c.new.result c.new.ensures.err

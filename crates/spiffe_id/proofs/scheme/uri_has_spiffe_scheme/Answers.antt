@@ -4,7 +4,8 @@ use Rattle.spiffe_id.proofs.scheme.uri_has_spiffe_scheme.Goals as goal
 
 pub returns-in-Some : goal.returns-in-Some
 returns-in-Some c =
-    rw (has_scheme_found c.args.uri.now c.in-Some.scheme.now _ c.in-Some.ensures.cases) (sym (scheme_is c.eq_ignore_ascii_case.result c.in-Some.scheme.now c.eq_ignore_ascii_case.ensures.test))
+    rw (has_scheme_found c.args.uri.now c.in-Some.scheme.now _ c.in-Some.ensures.cases)
+    (sym (scheme_is c.eq_ignore_ascii_case.result c.in-Some.scheme.now c.eq_ignore_ascii_case.ensures.test))
 
 pub returns-in-None : goal.returns-in-None
 returns-in-None c = rw (has_scheme_none c.args.uri.now c.in-None.ensures.cases)

@@ -9,5 +9,6 @@ pub loop-b-preserved : goal.loop-b-preserved
 loop-b-preserved c = record {
   small = omega arith;
   digits = (digits_drop c.args.digits.now c.loop-b.b-index c.loop-b-test.true c.loop-b.invariant.digits).1;
-  value = capped_step c.args.digits.now c.loop-b.b-index c.loop-b.so_far c.append_digit-so_far.result _ c.loop-b-test.true c.append_digit-so_far.ensures c.loop-b.invariant.value;
+  value = capped_step c.args.digits.now c.loop-b.b-index c.loop-b.so_far c.append_digit-so_far.result _ c.loop-b-test.true c.append_digit-so_far.ensures
+      c.loop-b.invariant.value;
 }

@@ -7,4 +7,5 @@ pub returns : goal.returns
 unfolding nanoseconds_of
 returns c =
     let n = number_value c.in_ok-number.number in
-    rw (← c.in_ok-number.ensures.value) (time_answer c.time_of.result (magnitude_of n) c.in_ok-magnitude.magnitude n.negative c.in_ok-magnitude.ensures c.time_of.ensures)
+    rw (← c.in_ok-number.ensures.value) (time_answer c.time_of.result (magnitude_of n) c.in_ok-magnitude.magnitude n.negative c.in_ok-magnitude.ensures
+    c.time_of.ensures)

@@ -9,12 +9,16 @@ capped_value-requires-then-are_zeros-clause-digits c = rw c.split_end-2.ensures.
 
 pub returns-then-are_zeros : goal.returns-then-are_zeros
 returns-then-are_zeros c =
-    some_left c.args.whole.now c.args.fraction.now c.args.zeros c.saturating_sub-whole_zeros.result _ _ _ _ c.are_zeros.result c.requires.whole c.requires.fraction
-    c.saturating_sub-whole_zeros.ensures c.split_end.ensures.front c.split_end.ensures.back c.split_end-2.ensures.front c.split_end-2.ensures.back c.are_zeros.ensures
+    some_left c.args.whole.now c.args.fraction.now c.args.zeros c.saturating_sub-whole_zeros.result _ _ _ _ c.are_zeros.result c.requires.whole
+    c.requires.fraction
+    c.saturating_sub-whole_zeros.ensures c.split_end.ensures.front c.split_end.ensures.back c.split_end-2.ensures.front c.split_end-2.ensures.back
+    c.are_zeros.ensures
     c.if-are_zeros.true _ _ c.capped_value.ensures c.capped_value-then-are_zeros.ensures
 
 pub returns : goal.returns
 returns c =
-    none_left c.args.whole.now c.args.fraction.now c.args.zeros c.saturating_sub-whole_zeros.result _ _ _ _ c.are_zeros.result c.requires.whole c.requires.fraction
-    c.saturating_sub-whole_zeros.ensures c.split_end.ensures.front c.split_end.ensures.back c.split_end-2.ensures.front c.split_end-2.ensures.back c.are_zeros.ensures
+    none_left c.args.whole.now c.args.fraction.now c.args.zeros c.saturating_sub-whole_zeros.result _ _ _ _ c.are_zeros.result c.requires.whole
+    c.requires.fraction
+    c.saturating_sub-whole_zeros.ensures c.split_end.ensures.front c.split_end.ensures.back c.split_end-2.ensures.front c.split_end-2.ensures.back
+    c.are_zeros.ensures
     c.if-are_zeros.false

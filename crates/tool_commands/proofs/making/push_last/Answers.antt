@@ -8,4 +8,5 @@ pub loop-entry-preserved : goal.loop-entry-preserved
 loop-entry-preserved c =
     let steps : c.loop-entry.entry-iterator ≡ c.in-Some.entry ∷ c.next.new.self = c.in-Some.ensures.steps in
     ap (λ (i : Id). last_of (Some i) c.next.new.self) c.id.ensures
-    ∙ (sym (ap (λ es. last_of (option_map (λ id. id.now) c.loop-entry.last) es) steps ∙ last_step (option_map (λ id. id.now) c.loop-entry.last) c.in-Some.entry c.next.new.self) ∙ c.loop-entry.invariant)
+    ∙ (sym (ap (λ es. last_of (option_map (λ id. id.now) c.loop-entry.last) es) steps
+    ∙ last_step (option_map (λ id. id.now) c.loop-entry.last) c.in-Some.entry c.next.new.self) ∙ c.loop-entry.invariant)

@@ -15,8 +15,10 @@ returns g c =
     let is : c.in-Ok.receipt ≡ appended c.args.source.now p.state = c.in-Ok.ensures.receipt ∙ p.list in
     let same : c.chosen-state.result.now ≡ p.state =
     chosen_is c.current.result.now c.latest.result.now c.chosen-state.result.now p.state c.revision-revision.result c.chosen-state.ensures
-    (λ at. seen_is c.states_are_told_by_revision.ensures.revision c.args.source.now c.in-Ok.receipt p.state c.current.result.now c.args.reader.now.list c.requires.opened is
+    (λ at. seen_is c.states_are_told_by_revision.ensures.revision c.args.source.now c.in-Ok.receipt p.state c.current.result.now c.args.reader.now.list
+    c.requires.opened is
     c.requires.fresh.list c.told.ensures.list c.current.follows.holds-at-none c.revision-revision.ensures.history (at ∙ c.revision-revision.ensures.last))
-    (c.states_are_told_by_revision.ensures.last c.apply.new.self.list p.state c.latest.result.now (receipt_ends c.args.source.now c.apply.new.self p.state p.list) c.latest.ensures.last) in
+    (c.states_are_told_by_revision.ensures.last c.apply.new.self.list p.state c.latest.result.now
+    (receipt_ends c.args.source.now c.apply.new.self p.state p.list) c.latest.ensures.last) in
     is_reported c.args.width c.args.text.items c.in_ok-state_text.field-0.items c.args.source.now p.state c.chosen-state.result.now c.requires.opened
     (rw (sym c.deref.ensures.value) p.next) same c.in_ok-state_text.ensures

@@ -43,7 +43,8 @@ returns-in-Err-write_all-clause-serves g c =
     let n = rw c.in-Ok-Request.field-0-is at c.in-Ok-Request.ensures.next in (
       rose_from _ _ _ c.requests.invariant.wrote c.in-Err-write_all.ensures.cause.failed,
       in_reply _ _ _ _ _ _ _ _ _ _ _ (meaning n.0 c.in-Ok-Request.request) c.requests.invariant.progress n.1 n.2 n.3 (c.in-Ok.ensures.reply n.0)
-          (subst (λ (l : List ℕ). AppendsPrefix (g.K.Sink.written c.requests.out) (g.K.Sink.written c.write_all.new.sink) l) c.as_slice.ensures.value c.in-Err-write_all.ensures.prefix),
+          (subst (λ (l : List ℕ). AppendsPrefix (g.K.Sink.written c.requests.out) (g.K.Sink.written c.write_all.new.sink) l) c.as_slice.ensures.value
+          c.in-Err-write_all.ensures.prefix),
     )
 
 pub requests-preserved : goal.requests-preserved
@@ -52,7 +53,8 @@ requests-preserved g c =
     let inv = c.requests.invariant in
     record {
       progress = one_more _ _ _ _ _ _ _ _ _ _ _ (meaning n.0 c.in-Ok-Request.request) inv.progress n.1 n.2 (c.in-Ok.ensures.reply n.0)
-          (subst (λ (l : List ℕ). Appends (g.K.Sink.written c.requests.out) (g.K.Sink.written c.write_all.new.sink) l) c.as_slice.ensures.value c.in-Ok-write_all.ensures.ok);
+          (subst (λ (l : List ℕ). Appends (g.K.Sink.written c.requests.out) (g.K.Sink.written c.write_all.new.sink) l) c.as_slice.ensures.value
+          c.in-Ok-write_all.ensures.ok);
       attends = c.in-Ok.ensures.attends;
       few = omega (arith, n.3);
       read = omega (arith, inv.read, c.in-Ok-Request.ensures.later);
@@ -65,7 +67,8 @@ requests-preserved-in-Ok-write_all g c =
     let inv = c.requests.invariant in
     record {
       progress = one_more _ _ _ _ _ _ _ _ _ _ _ (meaning n.0 c.in-Ok-Request.request) inv.progress n.1 n.2 (c.in-Ok.ensures.reply n.0)
-          (subst (λ (l : List ℕ). Appends (g.K.Sink.written c.requests.out) (g.K.Sink.written c.write_all.new.sink) l) c.as_slice.ensures.value c.in-Ok-write_all.ensures.ok);
+          (subst (λ (l : List ℕ). Appends (g.K.Sink.written c.requests.out) (g.K.Sink.written c.write_all.new.sink) l) c.as_slice.ensures.value
+          c.in-Ok-write_all.ensures.ok);
       attends = c.in-Ok.ensures.attends;
       few = omega (arith, n.3);
       read = omega (arith, inv.read, c.in-Ok-Request.ensures.later);
@@ -78,7 +81,8 @@ requests-preserved-in-Ok-write_all-2 g c =
     let inv = c.requests.invariant in
     record {
       progress = one_more _ _ _ _ _ _ _ _ _ _ _ (meaning n.0 c.in-Ok-Request.request) inv.progress n.1 n.2 (c.in-Ok.ensures.reply n.0)
-          (subst (λ (l : List ℕ). Appends (g.K.Sink.written c.requests.out) (g.K.Sink.written c.write_all.new.sink) l) c.as_slice.ensures.value c.in-Ok-write_all.ensures.ok);
+          (subst (λ (l : List ℕ). Appends (g.K.Sink.written c.requests.out) (g.K.Sink.written c.write_all.new.sink) l) c.as_slice.ensures.value
+          c.in-Ok-write_all.ensures.ok);
       attends = c.in-Ok.ensures.attends;
       few = omega (arith, n.3);
       read = omega (arith, inv.read, c.in-Ok-Request.ensures.later);

@@ -5,7 +5,8 @@ use Rattle.tool_script.proofs.serving.serve.Given as goal
 
 abbrev pub invariant-requests : goal.invariant-requests
 invariant-requests g l = record {
-  progress : Progress l.width (g.S.Source.left l.fn.input) (prepend_known l.ahead (g.S.Source.left l.input)) (g.K.Sink.written l.fn.out) (g.K.Sink.written l.out) l.count l.source.list;
+  progress : Progress l.width (g.S.Source.left l.fn.input) (prepend_known l.ahead (g.S.Source.left l.input)) (g.K.Sink.written l.fn.out)
+      (g.K.Sink.written l.out) l.count l.source.list;
   attends : Attends l.source l.reader;
   few : l.count ≤ 10000;
   read : g.S.Source.faults l.fn.input ≤ g.S.Source.faults l.input;

@@ -28,7 +28,8 @@ requests-preserved g c =
     let inv = c.requests.invariant in
     let more = c.in-Ok.ensures in
     record {
-      gathered = one_more _ _ _ _ _ _ _ _ _ _ (meaning n.0 c.in-Ok-Request.request) inv.gathered n.1 n.2 n.4 (more.size n.0) (more.updates n.0) (more.queries n.0);
+      gathered = one_more _ _ _ _ _ _ _ _ _ _ (meaning n.0 c.in-Ok-Request.request) inv.gathered n.1 n.2 n.4 (more.size n.0) (more.updates n.0)
+          (more.queries n.0);
       few = omega (arith, n.3);
       room = omega arith;
       later = omega (arith, inv.later, c.in-Ok-Request.ensures.later);

@@ -34,8 +34,12 @@ returns g c =
     let applied = c.in_ok-applied.applied in
     if_ok c.with_workers.result
     (λ text. text.items ≡ applied.replies.items ++ workers_at applied.states.items c.args.queries.now (lists_of c.deref.result.now) (length c.deref.result.now))
-    (λ text. WorksOn c.args.width (vec_len c.args.jobs) c.args.source.now.list (updates_in c.args.texts.now) c.args.queries.now c.args.applied.replies.items text.items)
-    (λ text says. works_on c.args.width (vec_len c.args.jobs) c.args.source.now.list applied.states.items (updates_in c.args.texts.now) c.args.queries.now c.args.applied.replies.items applied.replies.items text.items
-    c.in_ok-seen.seen.items c.requires.kept.is_list list replies workers (all_saw c.args.source.now.list (length c.args.queries.now) c.args.jobs.items c.in_ok-seen.seen.items c.requires.ready each many)
-    (says ∙ ap (λ (l : List (Vec ℕ Global)). applied.replies.items ++ workers_at applied.states.items c.args.queries.now (lists_of l) (length l)) c.deref.ensures.value))
+    (λ text. WorksOn c.args.width (vec_len c.args.jobs) c.args.source.now.list (updates_in c.args.texts.now) c.args.queries.now c.args.applied.replies.items
+    text.items)
+    (λ text says. works_on c.args.width (vec_len c.args.jobs) c.args.source.now.list applied.states.items (updates_in c.args.texts.now) c.args.queries.now
+    c.args.applied.replies.items applied.replies.items text.items
+    c.in_ok-seen.seen.items c.requires.kept.is_list list replies workers
+    (all_saw c.args.source.now.list (length c.args.queries.now) c.args.jobs.items c.in_ok-seen.seen.items c.requires.ready each many)
+    (says ∙ ap (λ (l : List (Vec ℕ Global)). applied.replies.items ++ workers_at applied.states.items c.args.queries.now (lists_of l) (length l))
+    c.deref.ensures.value))
     c.with_workers.ensures

@@ -11,7 +11,18 @@ returns-clause-answer g c =
     let e1 : to_z w16 (of_z w16 c.decode_6bits-second.result) ≡ c.decode_6bits-second.result = omega (arith, ints) in
     let e2 : to_z w16 (of_z w16 c.decode_6bits-third.result) ≡ c.decode_6bits-third.result = omega (arith, ints) in
     let e3 : to_z w16 (of_z w16 c.decode_6bits-fourth.result) ≡ c.decode_6bits-fourth.result = omega (arith, ints) in
-    rw (r, c.group_3bytes.ensures.answer, e0, c.decode_6bits-first.ensures.place, e1, c.decode_6bits-second.ensures.place, e2, c.decode_6bits-third.ensures.place, e3, c.decode_6bits-fourth.ensures.place) (four_answer g.Self.Alphabet.table c.args.src.now c.requires.four)
+    rw (
+      r,
+      c.group_3bytes.ensures.answer,
+      e0,
+      c.decode_6bits-first.ensures.place,
+      e1,
+      c.decode_6bits-second.ensures.place,
+      e2,
+      c.decode_6bits-third.ensures.place,
+      e3,
+      c.decode_6bits-fourth.ensures.place,
+    ) (four_answer g.Self.Alphabet.table c.args.src.now c.requires.four)
 
 pub returns-clause-written : goal.returns-clause-written
 returns-clause-written g c h =
@@ -20,9 +31,36 @@ returns-clause-written g c h =
     let e2 : to_z w16 (of_z w16 c.decode_6bits-third.result) ≡ c.decode_6bits-third.result = omega (arith, ints) in
     let e3 : to_z w16 (of_z w16 c.decode_6bits-fourth.result) ≡ c.decode_6bits-fourth.result = omega (arith, ints) in
     let zero : c.group_3bytes.result ≡ pos 0 =
-    rw (c.group_3bytes.ensures.answer, e0, c.decode_6bits-first.ensures.place, e1, c.decode_6bits-second.ensures.place, e2, c.decode_6bits-third.ensures.place, e3, c.decode_6bits-fourth.ensures.place, four_answer g.Self.Alphabet.table c.args.src.now c.requires.four, h) refl in
+    rw (
+      c.group_3bytes.ensures.answer,
+      e0,
+      c.decode_6bits-first.ensures.place,
+      e1,
+      c.decode_6bits-second.ensures.place,
+      e2,
+      c.decode_6bits-third.ensures.place,
+      e3,
+      c.decode_6bits-fourth.ensures.place,
+      four_answer g.Self.Alphabet.table c.args.src.now c.requires.four,
+      h,
+    )
+    refl in
     let s0 = sextet_is g.Self.Alphabet.table (slice_index c.args.src.now 0) (all_in_at g.Self.Alphabet.table c.args.src.now h 0 (omega arith)) in
     let s1 = sextet_is g.Self.Alphabet.table (slice_index c.args.src.now 1) (all_in_at g.Self.Alphabet.table c.args.src.now h 1 (omega arith)) in
     let s2 = sextet_is g.Self.Alphabet.table (slice_index c.args.src.now 2) (all_in_at g.Self.Alphabet.table c.args.src.now h 2 (omega arith)) in
     let s3 = sextet_is g.Self.Alphabet.table (slice_index c.args.src.now 3) (all_in_at g.Self.Alphabet.table c.args.src.now h 3 (omega arith)) in
-    rw (c.group_3bytes.ensures.written zero, e0, c.decode_6bits-first.ensures.place, e1, c.decode_6bits-second.ensures.place, e2, c.decode_6bits-third.ensures.place, e3, c.decode_6bits-fourth.ensures.place, s0, s1, s2, s3)
+    rw (
+      c.group_3bytes.ensures.written zero,
+      e0,
+      c.decode_6bits-first.ensures.place,
+      e1,
+      c.decode_6bits-second.ensures.place,
+      e2,
+      c.decode_6bits-third.ensures.place,
+      e3,
+      c.decode_6bits-fourth.ensures.place,
+      s0,
+      s1,
+      s2,
+      s3,
+    )

@@ -18,9 +18,11 @@ pub loop-step-preserved : goal.loop-step-preserved
 loop-step-preserved g c =
     let is = c.added-sum.ensures in
     let d : ℤ = to_z w16 c.loop-step.sum-bits in
-    let fits : FitsSigned w16 (to_z w16 c.loop-step.sum-bits +ℤ c.added-sum.result) = next_fits _ _ _ _ _ _ c.loop-step-test.true is c.loop-step.invariant.fits in
+    let fits : FitsSigned w16 (to_z w16 c.loop-step.sum-bits +ℤ c.added-sum.result) =
+    next_fits _ _ _ _ _ _ c.loop-step-test.true is c.loop-step.invariant.fits in
     let k : to_z w16 (of_z w16 c.added-sum.result) ≡ c.added-sum.result = omega (arith, ints) in
-    let more : to_z w16 (of_z w16 (to_z w16 c.loop-step.sum-bits +ℤ to_z w16 (of_z w16 c.added-sum.result))) ≡ to_z w16 c.loop-step.sum-bits +ℤ c.added-sum.result = rw k (to_z-of_z w16 _ fits) in
+    let more : to_z w16 (of_z w16 (to_z w16 c.loop-step.sum-bits +ℤ to_z w16 (of_z w16 c.added-sum.result)))
+    ≡ to_z w16 c.loop-step.sum-bits +ℤ c.added-sum.result = rw k (to_z-of_z w16 _ fits) in
     record {
       fits = rest_fits _ _ _ _ _ _ _ c.loop-step-test.true is more c.loop-step.invariant.fits;
       sum = rest_sum _ _ _ _ _ _ _ _ c.loop-step-test.true is more c.loop-step.invariant.sum;

@@ -26,9 +26,11 @@ overflow_add-sum-in-loop-step g c =
 pub loop-step-preserved : goal.loop-step-preserved
 loop-step-preserved g c =
     let is = c.turned-sum.ensures in
-    let fits : FitsSigned w16 (to_z w16 c.loop-step.sum-bits +ℤ c.turned-sum.result) = turn_sum_fits _ _ _ _ _ _ c.loop-step-test.true is c.loop-step.invariant.fits in
+    let fits : FitsSigned w16 (to_z w16 c.loop-step.sum-bits +ℤ c.turned-sum.result) =
+    turn_sum_fits _ _ _ _ _ _ c.loop-step-test.true is c.loop-step.invariant.fits in
     let k : to_z w16 (of_z w16 c.turned-sum.result) ≡ c.turned-sum.result = omega (arith, ints) in
-    let more : to_z w16 (of_z w16 (to_z w16 c.loop-step.sum-bits +ℤ to_z w16 (of_z w16 c.turned-sum.result))) ≡ to_z w16 c.loop-step.sum-bits +ℤ c.turned-sum.result = rw k (to_z-of_z w16 _ fits) in
+    let more : to_z w16 (of_z w16 (to_z w16 c.loop-step.sum-bits +ℤ to_z w16 (of_z w16 c.turned-sum.result)))
+    ≡ to_z w16 c.loop-step.sum-bits +ℤ c.turned-sum.result = rw k (to_z-of_z w16 _ fits) in
     record {
       fits = turns_rest _ _ _ _ _ _ _ c.loop-step-test.true is more c.loop-step.invariant.fits;
       sum = turned_rest _ _ _ _ _ _ _ _ c.loop-step-test.true is more c.loop-step.invariant.sum;

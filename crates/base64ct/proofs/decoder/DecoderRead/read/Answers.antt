@@ -11,7 +11,8 @@ returns-in_err-fill-clause-err g c =
     let all = c.self.invariant.0 in
     let left = ap length c.self.view_is in
     let len = length-take-le c.min-n.result c.args.buf.now (omega arith) in
-    on_err _ c.from_residual.result (read_error c.args.self.now _ (length c.args.buf.now) _ c.in_err-fill.ensures.err (omega arith) (omega arith) (λ lt. omega arith))
+    on_err _ c.from_residual.result (read_error c.args.self.now _ (length c.args.buf.now) _ c.in_err-fill.ensures.err (omega arith) (omega arith)
+    (λ lt. omega arith))
 
 pub returns-clause-bytes : goal.returns-clause-bytes
 returns-clause-bytes g c =
@@ -22,7 +23,8 @@ returns-clause-bytes g c =
     let given = length-map_some c.fill.new.out in
     let both = length-append c.fill.new.out (drop c.min-n.result c.args.buf.now) in
     let rest = length-drop c.min-n.result c.args.buf.now in (
-      subst (λ (us : List ℕ). Consumes (known_bytes c.args.self.now) (known_bytes c.fill.new.self) us) (sym (take_at c.fill.new.out (drop c.min-n.result c.args.buf.now) c.min-n.result len))
+      subst (λ (us : List ℕ). Consumes (known_bytes c.args.self.now) (known_bytes c.fill.new.self) us)
+          (sym (take_at c.fill.new.out (drop c.min-n.result c.args.buf.now) c.min-n.result len))
           (consumed c.args.self.now c.fill.new.self c.fill.new.out c.in_ok-fill.ensures.items),
       λ nothing some. at_end_of c.fill.new.self (omega arith),
     )

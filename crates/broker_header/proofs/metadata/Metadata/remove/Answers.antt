@@ -4,7 +4,8 @@ use Rattle.broker_header.proofs.StoredEntries.{stored_removed, stored_was, store
 use Rattle.broker_header.proofs.metadata.Metadata.remove.Goals as goal
 
 pub returns-clause-was : goal.returns-clause-was
-returns-clause-was c = c.is_some.ensures ∙ stored_was c.args.key.now c.args.self.now c.self.inside.entries.entries c.remove.result c.self.view_is c.remove.ensures.value
+returns-clause-was c = c.is_some.ensures ∙ stored_was c.args.key.now c.args.self.now c.self.inside.entries.entries c.remove.result c.self.view_is
+    c.remove.ensures.value
 
 pub returns-clause-removed : goal.returns-clause-removed
 returns-clause-removed c = stored_removed c.args.key.now c.args.self.now c.self.inside.entries.entries _ c.self.view_is c.remove.ensures.entries

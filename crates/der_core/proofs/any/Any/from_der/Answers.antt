@@ -27,5 +27,6 @@ returns-in_err-from_der c =
 
 pub returns : goal.returns
 returns c =
-    let reads : ReadsPlain c.args.bytes.now (plain_ref c.in_ok-from_der.field-0) = record { tag_ok = c.in_ok-from_der.field-0.tag.valid; is = c.in_ok-from_der.ensures.is; fits = c.in_ok-from_der.ensures.fits } in
+    let reads : ReadsPlain c.args.bytes.now (plain_ref c.in_ok-from_der.field-0) =
+    record { tag_ok = c.in_ok-from_der.field-0.tag.valid; is = c.in_ok-from_der.ensures.is; fits = c.in_ok-from_der.ensures.fits } in
     owned_value ReadsPlain plain_any c.args.bytes.now (plain_ref c.in_ok-from_der.field-0) c.ref_to_owned.result reads c.ref_to_owned.ensures

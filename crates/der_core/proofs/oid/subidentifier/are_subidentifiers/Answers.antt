@@ -18,4 +18,8 @@ loop-rest-preserved c =
     (λ a. c.loop-rest.invariant.0 (step.1 a), λ a. step.0 (c.loop-rest.invariant.1 a))
 
 pub returns : goal.returns
-returns c = (λ _. c.loop-rest.invariant.0 (are_empty c.loop-rest.rest.now (eqb-true (length c.loop-rest.rest.now) 0 (sym c.is_empty.ensures ∙ c.loop-rest-test.false))), λ _. refl)
+returns c = (
+  λ _. c.loop-rest.invariant.0 (are_empty c.loop-rest.rest.now
+      (eqb-true (length c.loop-rest.rest.now) 0 (sym c.is_empty.ensures ∙ c.loop-rest-test.false))),
+  λ _. refl,
+)

@@ -10,7 +10,8 @@ use Rattle.der_core.proofs.oid.subidentifier.subidentifier_at.Goals.{then-is_emp
 pub returns-then-is_empty-clause-none : goal.returns-then-is_empty-clause-none
 returns-then-is_empty-clause-none c =
     elim c.then-is_empty.branch [
-      | then-is_empty-via-then-is_empty w ↦ none_empty c.args.bytes.now (omega (arith, eqb-true (length c.args.bytes.now) 0 (sym c.is_empty.ensures ∙ w.if-is_empty.true)))
+      | then-is_empty-via-then-is_empty w ↦ none_empty c.args.bytes.now
+          (omega (arith, eqb-true (length c.args.bytes.now) 0 (sym c.is_empty.ensures ∙ w.if-is_empty.true)))
       | then-is_empty-via-else-is_empty+then-bytes w ↦ none_zero c.args.bytes.now w.if-bytes.true
     ]
 
@@ -26,7 +27,8 @@ returns-then-byte-lt128-clause-found c =
     let bytes : IsBytes c.args.bytes.now = λ i. omega (arith, c.type_inv.bytes i) in
     let digit : c.from.result ≡ get_or c.args.bytes.now c.loop-i.i 0 % 128 = c.from.ensures in
     let some = sym c.loop-i.invariant.goes_on ∙ read_some_at c.loop-i.number i s c.loop-i-test.true (omega arith) c.if-byte-lt128.true in
-    let all : take (length c.args.bytes.now - (c.loop-i.i + 1)) (drop (c.loop-i.i + 1) c.args.bytes.now) ≡ drop (c.loop-i.i + 1) c.args.bytes.now = take_all _ (drop (i + 1) s) (omega (arith, length-drop (i + 1) s)) in
+    let all : take (length c.args.bytes.now - (c.loop-i.i + 1)) (drop (c.loop-i.i + 1) c.args.bytes.now) ≡ drop (c.loop-i.i + 1) c.args.bytes.now =
+    take_all _ (drop (i + 1) s) (omega (arith, length-drop (i + 1) s)) in
     rw (all, digit) (read_front s _ bytes c.if-bytes.false some).0
 
 pub loop-i-preserved : goal.loop-i-preserved
@@ -34,7 +36,8 @@ loop-i-preserved c =
     let digit : c.from.result ≡ get_or c.args.bytes.now c.loop-i.i 0 % 128 = c.from.ensures in
     record {
       small = c.if-number-ge4294967296.false;
-      goes_on = rw digit (sym (read_more_at c.loop-i.number c.loop-i.i c.args.bytes.now c.loop-i-test.true (omega arith) c.if-byte-lt128.false) ∙ c.loop-i.invariant.goes_on);
+      goes_on = rw digit (sym (read_more_at c.loop-i.number c.loop-i.i c.args.bytes.now c.loop-i-test.true (omega arith) c.if-byte-lt128.false)
+          ∙ c.loop-i.invariant.goes_on);
     }
 
 pub returns-clause-none : goal.returns-clause-none

@@ -4,7 +4,8 @@ use Rattle.std.proofs.lemmas.Bool.{eqb-false}
 use Rattle.std.specs.Fmt.{decimal}
 use Rattle.der_core.specs.Oid.{subidentifier_bytes, oid_text, second_arc}
 use Rattle.der_core.proofs.Subidentifiers.{some_bytes}
-use Rattle.der_core.proofs.Texts.{Continues, no_first, no_second, no_joined, continues_first, no_next, no_room, are_push, are_one, text_push, text_one, continues_next, continues_length, if_none}
+use Rattle.der_core.proofs.Texts.{Continues, no_first, no_second, no_joined, continues_first, no_next, no_room, are_push, are_one, text_push, text_one}
+use Rattle.der_core.proofs.Texts.{continues_next, continues_length, if_none}
 use Rattle.der_core.proofs.oid.text.content_of.Goals as goal
 
 pub returns-in_err-first-clause-none : goal.returns-in_err-first-clause-none
@@ -12,17 +13,23 @@ returns-in_err-first-clause-none c = if_none c.from_residual.result (no_first c.
 
 pub returns-in_err-second-clause-none : goal.returns-in_err-second-clause-none
 returns-in_err-second-clause-none c =
-    if_none c.from_residual-in_err-second.result (no_second c.args.text.now c.in_ok-first.rest.now c.in_ok-first.first c.in_ok-first.ensures.found c.in_ok-first.ensures.small c.in_ok-first.ensures.ended c.in_err-second.ensures.none)
+    if_none c.from_residual-in_err-second.result (no_second c.args.text.now c.in_ok-first.rest.now c.in_ok-first.first c.in_ok-first.ensures.found
+    c.in_ok-first.ensures.small c.in_ok-first.ensures.ended c.in_err-second.ensures.none)
 
 pub returns-in_err-joined-clause-none : goal.returns-in_err-joined-clause-none
 returns-in_err-joined-clause-none c =
-    if_none c.from_residual-in_err-joined.result (no_joined c.args.text.now c.in_ok-first.rest.now c.in_ok-second.rest.now c.in_ok-first.first c.in_ok-second.second c.in_ok-first.ensures.found c.in_ok-first.ensures.small c.in_ok-first.ensures.ended c.in_ok-second.ensures.found c.in_ok-second.ensures.small c.in_ok-second.ensures.ended c.in_err-joined.ensures.none)
+    if_none c.from_residual-in_err-joined.result (no_joined c.args.text.now c.in_ok-first.rest.now c.in_ok-second.rest.now c.in_ok-first.first
+    c.in_ok-second.second c.in_ok-first.ensures.found c.in_ok-first.ensures.small c.in_ok-first.ensures.ended c.in_ok-second.ensures.found
+    c.in_ok-second.ensures.small c.in_ok-second.ensures.ended c.in_err-joined.ensures.none)
 
 pub returns-then-not-push-clause-none : goal.returns-then-not-push-clause-none
 returns-then-not-push-clause-none c = λ content ok same.
     let n : ℕ = c.in_ok-joined.field-0 in
-    let only = continues_first c.args.text.now c.in_ok-first.rest.now c.in_ok-second.rest.now c.in_ok-first.first c.in_ok-second.second n c.in_ok-first.ensures.found c.in_ok-first.ensures.small c.in_ok-first.ensures.ended c.in_ok-second.ensures.found c.in_ok-second.ensures.small c.in_ok-second.ensures.ended c.in_ok-joined.ensures.first c.in_ok-joined.ensures.second c.in_ok-joined.ensures.small content ok same in
-    let long : length (subidentifier_bytes c.in_ok-joined.field-0) ≤ length content = continues_length content (subidentifier_bytes n) c.in_ok-second.rest.now ok (are_one n c.in_ok-joined.ensures.small) only in
+    let only = continues_first c.args.text.now c.in_ok-first.rest.now c.in_ok-second.rest.now c.in_ok-first.first c.in_ok-second.second n
+    c.in_ok-first.ensures.found c.in_ok-first.ensures.small c.in_ok-first.ensures.ended c.in_ok-second.ensures.found c.in_ok-second.ensures.small
+    c.in_ok-second.ensures.ended c.in_ok-joined.ensures.first c.in_ok-joined.ensures.second c.in_ok-joined.ensures.small content ok same in
+    let long : length (subidentifier_bytes c.in_ok-joined.field-0) ≤ length content =
+    continues_length content (subidentifier_bytes n) c.in_ok-second.rest.now ok (are_one n c.in_ok-joined.ensures.small) only in
     let short : length content ≤ 39 = ok.short in
     let empty : length c.new-content.result ≡ 0 = ap length c.new-content.ensures in
     let full : 39 < length c.new-content.result + length (subidentifier_bytes c.in_ok-joined.field-0) = c.if-not-push.ensures.full in
@@ -31,7 +38,8 @@ returns-then-not-push-clause-none c = λ content ok same.
 pub loop-rest-init : goal.loop-rest-init
 loop-rest-init c =
     let n : ℕ = c.in_ok-joined.field-0 in
-    let is : c.push.new.self ≡ subidentifier_bytes c.in_ok-joined.field-0 = c.if-not-push.ensures.pushed ∙ ap (λ (s : List ℕ). s ++ subidentifier_bytes n) c.new-content.ensures in
+    let is : c.push.new.self ≡ subidentifier_bytes c.in_ok-joined.field-0 = c.if-not-push.ensures.pushed
+    ∙ ap (λ (s : List ℕ). s ++ subidentifier_bytes n) c.new-content.ensures in
     let text : oid_text (subidentifier_bytes n) ≡ decimal c.in_ok-first.first ++ (46 ∷ decimal c.in_ok-second.second) =
     text_one n c.in_ok-joined.ensures.small
     ∙ ap (λ (k : ℕ). decimal k ++ (46 ∷ decimal (second_arc n))) (sym c.in_ok-joined.ensures.first)
@@ -46,17 +54,22 @@ loop-rest-init c =
       ends = c.in_ok-second.ensures.ended;
       only = λ content ok same.
           let P : List ℕ → Type 0 = λ s. Continues content s c.in_ok-second.rest.now in
-          subst P (sym is) (continues_first c.args.text.now c.in_ok-first.rest.now c.in_ok-second.rest.now c.in_ok-first.first c.in_ok-second.second n c.in_ok-first.ensures.found c.in_ok-first.ensures.small c.in_ok-first.ensures.ended c.in_ok-second.ensures.found c.in_ok-second.ensures.small c.in_ok-second.ensures.ended c.in_ok-joined.ensures.first c.in_ok-joined.ensures.second c.in_ok-joined.ensures.small content ok same);
+          subst P (sym is) (continues_first c.args.text.now c.in_ok-first.rest.now c.in_ok-second.rest.now c.in_ok-first.first c.in_ok-second.second n
+          c.in_ok-first.ensures.found c.in_ok-first.ensures.small c.in_ok-first.ensures.ended c.in_ok-second.ensures.found c.in_ok-second.ensures.small
+          c.in_ok-second.ensures.ended c.in_ok-joined.ensures.first c.in_ok-joined.ensures.second c.in_ok-joined.ensures.small content ok same);
     }
 
 pub returns-in_err-number-clause-none : goal.returns-in_err-number-clause-none
 returns-in_err-number-clause-none c =
     let some : length c.loop-rest.rest.now ≡ 0 → ⊥ = eqb-false (length c.loop-rest.rest.now) 0 (sym c.is_empty.ensures ∙ c.loop-rest-test.true) in
-    if_none c.from_residual-in_err-number.result (λ content ok same. no_next content c.loop-rest.content c.loop-rest.rest.now ok (c.loop-rest.invariant.only content ok same) (omega arith) c.in_err-number.ensures.none)
+    if_none c.from_residual-in_err-number.result (λ content ok same. no_next content c.loop-rest.content c.loop-rest.rest.now ok
+    (c.loop-rest.invariant.only content ok same) (omega arith) c.in_err-number.ensures.none)
 
 pub returns-then-not-push-2-clause-none : goal.returns-then-not-push-2-clause-none
 returns-then-not-push-2-clause-none c = λ content ok same.
-    no_room content c.loop-rest.content c.loop-rest.rest.now c.in_ok-number.after.now c.in_ok-number.number ok c.loop-rest.invariant.spelt (c.loop-rest.invariant.only content ok same) c.in_ok-number.ensures.found c.in_ok-number.ensures.small c.in_ok-number.ensures.ended c.if-not-push-2.ensures.full
+    no_room content c.loop-rest.content c.loop-rest.rest.now c.in_ok-number.after.now c.in_ok-number.number ok c.loop-rest.invariant.spelt
+    (c.loop-rest.invariant.only content ok same) c.in_ok-number.ensures.found c.in_ok-number.ensures.small c.in_ok-number.ensures.ended
+    c.if-not-push-2.ensures.full
 
 pub loop-rest-preserved : goal.loop-rest-preserved
 loop-rest-preserved c =
@@ -76,5 +89,6 @@ loop-rest-preserved c =
       ends = c.in_ok-number.ensures.ended;
       only = λ content ok same.
           let P : List ℕ → Type 0 = λ s. Continues content s c.in_ok-number.after.now in
-          subst P (sym is) (continues_next content before c.loop-rest.rest.now c.in_ok-number.after.now n ok c.loop-rest.invariant.spelt (c.loop-rest.invariant.only content ok same) c.in_ok-number.ensures.found small c.in_ok-number.ensures.ended);
+          subst P (sym is) (continues_next content before c.loop-rest.rest.now c.in_ok-number.after.now n ok c.loop-rest.invariant.spelt
+          (c.loop-rest.invariant.only content ok same) c.in_ok-number.ensures.found small c.in_ok-number.ensures.ended);
     }

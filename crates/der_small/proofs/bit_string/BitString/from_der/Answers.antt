@@ -16,4 +16,5 @@ returns-in_err-from_der c =
     (λ b v h. record { bits = v.are_bits; is = h })
     (λ b p h fits. record { unused_bits = p.unused_bits; raw = record c.args.bytes { now = p.octets }; are_bits = h.bits })
     (λ b p h fits. h.is) in
-    rw (refused.1 ∙ ap Err refused.2) (owned_refusal (ReadsTagged 3 Has) (ReadsTagged 3 BitsContent) plain_bits c.args.bytes.now c.in_err-from_der.field-0.0 same c.in_err-from_der.ensures)
+    rw (refused.1 ∙ ap Err refused.2) (owned_refusal (ReadsTagged 3 Has) (ReadsTagged 3 BitsContent) plain_bits c.args.bytes.now c.in_err-from_der.field-0.0
+    same c.in_err-from_der.ensures)

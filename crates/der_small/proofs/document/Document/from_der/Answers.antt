@@ -24,4 +24,5 @@ returns-in_err-from_der c =
       };
       borrowed_reads = λ b p r. record { is = r.one.is; fits = r.one.fits };
     } in
-    rw (refused.1 ∙ ap Err refused.2) (owned_refusal Reads IsOneValue document_bytes c.args.bytes.now c.in_err-from_der.field-0.0 same c.in_err-from_der.ensures)
+    rw (refused.1 ∙ ap Err refused.2) (owned_refusal Reads IsOneValue document_bytes c.args.bytes.now c.in_err-from_der.field-0.0 same
+    c.in_err-from_der.ensures)

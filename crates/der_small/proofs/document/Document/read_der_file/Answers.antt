@@ -10,4 +10,5 @@ use Rattle.der_small.proofs.document.Document.read_der_file.Goals as goal
 pub returns-clause-read : goal.returns-clause-read
 returns-clause-read g c = λ known is.
     let Read : List ℕ → Type 0 = λ bytes. FromDerOwned document_bytes IsOneValue bytes c.from_der.result in
-    file_document document_bytes (file_at c.args.path.now known) c.in_ok-bytes.bytes c.from_der.result (c.in_ok-bytes.ensures.read known is) (subst Read c.deref.ensures.value c.from_der.ensures)
+    file_document document_bytes (file_at c.args.path.now known) c.in_ok-bytes.bytes c.from_der.result (c.in_ok-bytes.ensures.read known is)
+    (subst Read c.deref.ensures.value c.from_der.ensures)

@@ -16,4 +16,5 @@ returns-in_err-from_der c =
     (λ b v h. h)
     (λ b p h fits. record { bytes = record c.args.bytes { now = p }; small = rw h fits })
     (λ b p h fits. h) in
-    rw (refused.1 ∙ ap Err refused.2) (owned_refusal (ReadsTagged 4 Has) (ReadsTagged 4 HasPlain) octets c.args.bytes.now c.in_err-from_der.field-0.0 same c.in_err-from_der.ensures)
+    rw (refused.1 ∙ ap Err refused.2) (owned_refusal (ReadsTagged 4 Has) (ReadsTagged 4 HasPlain) octets c.args.bytes.now c.in_err-from_der.field-0.0 same
+    c.in_err-from_der.ensures)

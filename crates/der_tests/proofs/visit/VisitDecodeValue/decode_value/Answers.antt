@@ -10,10 +10,14 @@ returns-in_default-decode-clause-none g c = λ v content.
 
 pub returns-in_default-decode-2-clause-none : goal.returns-in_default-decode-2-clause-none
 returns-in_default-decode-2-clause-none g c = λ v content.
-    no_third_of_three g.Place.Decode.Reads g.Guest.Decode.Reads g.Proof.Decode.Reads (g.met.Place.Decode c.lifetimes (search rules)).one_value (g.met.Guest.Decode c.lifetimes (search rules)).one_value
-    _ _ _ _ _ c.in-Ok.ensures.value c.in-Ok-decode.ensures.value c.in_default-decode-2.ensures.none v.place v.guest v.proof (rw (c.new-at.ensures, c.rest.ensures) content)
+    no_third_of_three g.Place.Decode.Reads g.Guest.Decode.Reads g.Proof.Decode.Reads (g.met.Place.Decode c.lifetimes (search rules)).one_value
+    (g.met.Guest.Decode c.lifetimes (search rules)).one_value
+    _ _ _ _ _ c.in-Ok.ensures.value c.in-Ok-decode.ensures.value c.in_default-decode-2.ensures.none v.place v.guest v.proof
+    (rw (c.new-at.ensures, c.rest.ensures) content)
 
 pub returns-then-not-is_finished-clause-none : goal.returns-then-not-is_finished-clause-none
 returns-then-not-is_finished-clause-none g c = λ v content.
-    more_than_three g.Place.Decode.Reads g.Guest.Decode.Reads g.Proof.Decode.Reads (g.met.Place.Decode c.lifetimes (search rules)).one_value (g.met.Guest.Decode c.lifetimes (search rules)).one_value (g.met.Proof.Decode c.lifetimes (search rules)).one_value
-    _ _ _ _ _ _ _ c.in-Ok.ensures.value c.in-Ok-decode.ensures.value c.in-Ok-decode-2.ensures.value (unless _ c.is_finished.ensures c.if-not-is_finished.true) v.place v.guest v.proof (rw (c.new-at.ensures, c.rest.ensures) content)
+    more_than_three g.Place.Decode.Reads g.Guest.Decode.Reads g.Proof.Decode.Reads (g.met.Place.Decode c.lifetimes (search rules)).one_value
+    (g.met.Guest.Decode c.lifetimes (search rules)).one_value (g.met.Proof.Decode c.lifetimes (search rules)).one_value
+    _ _ _ _ _ _ _ c.in-Ok.ensures.value c.in-Ok-decode.ensures.value c.in-Ok-decode-2.ensures.value
+    (unless _ c.is_finished.ensures c.if-not-is_finished.true) v.place v.guest v.proof (rw (c.new-at.ensures, c.rest.ensures) content)

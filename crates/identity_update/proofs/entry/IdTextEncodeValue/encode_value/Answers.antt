@@ -28,6 +28,7 @@ returns-clause-wrote g c =
     let second = rw (c.as_bytes-2.ensures.value ∙ c.trust_domain_name.ensures.name) at c.in_ok-write-2.ensures.told in
     let path_is : c.as_bytes-3.result.now ≡ path = c.as_bytes-3.ensures.value ∙ c.path.ensures.path in
     let short : length c.as_bytes-3.result.now < 2 ^ 32 = subst (λ (x : List ℕ). length x < 2 ^ 32) (sym path_is) (rest_fits domain path behind) in
-    let third = rw path_is at (wrote_slice {HasTold = g.W.Writer.HasTold} {refusals = g.W.Writer.refusals} {last_refusal = g.W.Writer.last_refusal} {old = c.write-2.new.self} {new = c.write-3.new.self} c.as_bytes-3.result.now c.write-3.ensures.told c.write-3.ensures.refused short) in
+    let third = rw path_is at (wrote_slice {HasTold = g.W.Writer.HasTold} {refusals = g.W.Writer.refusals} {last_refusal = g.W.Writer.last_refusal}
+    {old = c.write-2.new.self} {new = c.write-3.new.self} c.as_bytes-3.result.now c.write-3.ensures.told c.write-3.ensures.refused short) in
     wrote_behind {b = domain ++ path} (codes "spiffe://") first c.write.ensures.count
     (wrote_behind {b = path} domain second c.write-2.ensures.count third behind) c.in_ok-value_len.ensures.1

@@ -12,7 +12,9 @@ pub returns-clause-reads : goal.returns-clause-reads
 returns-clause-reads c =
     let u = c.self.inside in
     let reads = kept_reads u.document.items u.identities u.entries.items u.bundles.items u.set u.reason c.self.invariant in
-    let here : ReadsUpdate c.deref.result.now (canonical (kept_update u.document.items u.identities u.entries.items u.bundles.items u.reason)) = subst (λ (d : List ℕ). ReadsUpdate d (canonical (kept_update u.document.items u.identities u.entries.items u.bundles.items u.reason))) (sym c.deref.ensures.value) reads in
+    let here : ReadsUpdate c.deref.result.now (canonical (kept_update u.document.items u.identities u.entries.items u.bundles.items u.reason)) =
+    subst (λ (d : List ℕ). ReadsUpdate d (canonical (kept_update u.document.items u.identities u.entries.items u.bundles.items u.reason)))
+    (sym c.deref.ensures.value) reads in
     subst (λ (v : UpdateParts). ReadsUpdate c.deref.result.now (canonical v)) c.self.view_is here
 
 pub returns-clause-lawful : goal.returns-clause-lawful

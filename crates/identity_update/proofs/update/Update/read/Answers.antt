@@ -17,4 +17,10 @@ pub returns-in_err-parts-clause-refusal : goal.returns-in_err-parts-clause-refus
 returns-in_err-parts-clause-refusal c =
     let w = written_update c.in_ok-document.document in
     passed_on (Refuses c.args.width c.args.text.now) _ c.in_err-parts.field-0.0 c.from_residual-in_err-parts.ensures.1
-    (rule_refused c.args.width c.args.text.now w c.in_err-parts.field-0.0 (record { has = c.in_ok-bytes.ensures.ok.0; bytes = c.in_ok-bytes.bytes.items; are = c.in_ok-bytes.ensures.ok.1; document = rw c.deref.ensures.value at c.in_ok-document.ensures.ok }) c.in_err-parts.ensures.refusal)
+    (rule_refused c.args.width c.args.text.now w c.in_err-parts.field-0.0
+    (record {
+      has = c.in_ok-bytes.ensures.ok.0;
+      bytes = c.in_ok-bytes.bytes.items;
+      are = c.in_ok-bytes.ensures.ok.1;
+      document = rw c.deref.ensures.value at c.in_ok-document.ensures.ok;
+    }) c.in_err-parts.ensures.refusal)

@@ -12,7 +12,9 @@ known-requires c =
       short = lit≤ tt;
       numbers = record {
         spelt = refl;
-        small = All-cons P 42 (840 ∷ 10045 ∷ 2 ∷ 1 ∷ []) (lit< tt) (All-cons P 840 (10045 ∷ 2 ∷ 1 ∷ []) (lit< tt) (All-cons P 10045 (2 ∷ 1 ∷ []) (lit< tt) (All-cons P 2 (1 ∷ []) (lit< tt) (All-cons P 1 [] (lit< tt) (All-nil P)))));
+        small = All-cons P 42 (840 ∷ 10045 ∷ 2 ∷ 1 ∷ []) (lit< tt)
+            (All-cons P 840 (10045 ∷ 2 ∷ 1 ∷ []) (lit< tt) (All-cons P 10045 (2 ∷ 1 ∷ []) (lit< tt)
+            (All-cons P 2 (1 ∷ []) (lit< tt) (All-cons P 1 [] (lit< tt) (All-nil P)))));
       };
     }
 
@@ -25,6 +27,9 @@ known-requires-2 c =
       short = lit≤ tt;
       numbers = record {
         spelt = refl;
-        small = All-cons P 42 (840 ∷ 10045 ∷ 3 ∷ 1 ∷ 7 ∷ []) (lit< tt) (All-cons P 840 (10045 ∷ 3 ∷ 1 ∷ 7 ∷ []) (lit< tt) (All-cons P 10045 (3 ∷ 1 ∷ 7 ∷ []) (lit< tt) (All-cons P 3 (1 ∷ 7 ∷ []) (lit< tt) (All-cons P 1 (7 ∷ []) (lit< tt) (All-cons P 7 [] (lit< tt) (All-nil P))))));
+        small = All-cons P 42 (840 ∷ 10045 ∷ 3 ∷ 1 ∷ 7 ∷ []) (lit< tt)
+            (All-cons P 840 (10045 ∷ 3 ∷ 1 ∷ 7 ∷ []) (lit< tt)
+            (All-cons P 10045 (3 ∷ 1 ∷ 7 ∷ []) (lit< tt) (All-cons P 3 (1 ∷ 7 ∷ []) (lit< tt)
+            (All-cons P 1 (7 ∷ []) (lit< tt) (All-cons P 7 [] (lit< tt) (All-nil P))))));
       };
     }

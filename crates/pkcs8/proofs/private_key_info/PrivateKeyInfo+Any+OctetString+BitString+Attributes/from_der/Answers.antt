@@ -15,10 +15,16 @@ pub returns-in-Err : goal.returns-in-Err
 returns-in-Err c =
     let same = same_private_keys (record {
       any = record {
-        of = λ p t fits. record { tag = record { byte = p.tag; valid = t }; value = record c.args.bytes { now = p.content }; small = content_fits p.tag p.content fits };
+        of = λ p t fits. record {
+          tag = record { byte = p.tag; valid = t };
+          value = record c.args.bytes { now = p.content };
+          small =
+              content_fits p.tag p.content fits;
+        };
         is = λ p t fits. refl;
       };
-      octets = same_tagged 4 HasOctetsRef (λ content octets. octets ≡ content) octets_ref (λ c v h. h) (λ b p h fits. record { bytes = record c.args.bytes { now = b }; small = fits }) (λ b p h fits. refl);
+      octets = same_tagged 4 HasOctetsRef (λ content octets. octets ≡ content) octets_ref (λ c v h. h)
+          (λ b p h fits. record { bytes = record c.args.bytes { now = b }; small = fits }) (λ b p h fits. refl);
       attributes = record {
         of = λ b p h fits. record { content = record c.args.bytes { now = b }; small = fits };
         reads = λ b p h fits. refl;

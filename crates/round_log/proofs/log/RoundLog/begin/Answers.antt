@@ -10,5 +10,6 @@ compare_exchange-found-requires g c =
       book ∙ sym (ap (λ w. w.book) h),
       pen.0 ∙ (book ∙ sym (ap (λ w. w.book) h)),
       offer.0,
-      rw (ap (λ w. w.key) h, pen.1) (begins_moves c.again-seen.result.log c.plain-offer.result.ask c.plain-offer.result.state c.self.inside.length c.self.invariant.rounds (ap (λ s. length s.log) seen ∙ sym c.self.invariant.length_is) c.self.invariant.even),
+      rw (ap (λ w. w.key) h, pen.1) (begins_moves c.again-seen.result.log c.plain-offer.result.ask c.plain-offer.result.state c.self.inside.length
+          c.self.invariant.rounds (ap (λ s. length s.log) seen ∙ sym c.self.invariant.length_is) c.self.invariant.even),
     )

@@ -4,7 +4,8 @@ use Rattle.spiffe_bundle.proofs.StoredEntries.{named_found, stored_found}
 use Rattle.spiffe_bundle.proofs.jwt_bundle.JwtBundle.find_jwt_authority.Goals as goal
 
 pub returns-clause-found : goal.returns-clause-found
-returns-clause-found c = rw (← c.self.view_is) (stored_found string_bytes c.args.key_id.now c.self.inside.jwt_authorities.entries c.get.result c.get.ensures.value)
+returns-clause-found c = rw (← c.self.view_is) (stored_found string_bytes c.args.key_id.now c.self.inside.jwt_authorities.entries c.get.result
+    c.get.ensures.value)
 
 pub returns-clause-named : goal.returns-clause-named
 returns-clause-named c =

@@ -10,5 +10,6 @@ read_keys-requires-clause-whole c =
 
 pub read_keys-requires-clause-nests : goal.read_keys-requires-clause-nests
 read_keys-requires-clause-nests c =
-    let within : items_depth (items_view c.in_ok-keys.keys.now.items) ≤ depth (view c.in_ok-value.value) = keys_nest (view c.in_ok-value.value) _ (sym c.in_ok-keys.ensures) in
+    let within : items_depth (items_view c.in_ok-keys.keys.now.items) ≤ depth (view c.in_ok-value.value) =
+    keys_nest (view c.in_ok-value.value) _ (sym c.in_ok-keys.ensures) in
     rw c.deref.ensures.value (omega (arith, within, c.in_ok-value.ensures.nests))

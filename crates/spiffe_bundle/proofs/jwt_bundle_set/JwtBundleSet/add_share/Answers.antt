@@ -8,7 +8,8 @@ use Rattle.spiffe_bundle.proofs.jwt_bundle_set.JwtBundleSet.add_share.Goals as g
 pub returns-clause-ok : goal.returns-clause-ok
 returns-clause-ok c =
     let bundle = arc_value c.args.bundle in
-    stored_added (λ domain. domain) c.args.self.now c.self.inside.bundles.entries _ c.in_ok-domain.domain c.args.bundle bundle.trust_domain bundle c.self.view_is
+    stored_added (λ domain. domain) c.args.self.now c.self.inside.bundles.entries _ c.in_ok-domain.domain c.args.bundle bundle.trust_domain bundle
+    c.self.view_is
     c.in_ok-insert.ensures.entries (c.in_ok-domain.ensures ∙ c.trust_domain.ensures ∙ ap (λ b. b.trust_domain) c.deref.ensures) refl
 
 pub invariant_of-self-2 : goal.invariant_of-self-2

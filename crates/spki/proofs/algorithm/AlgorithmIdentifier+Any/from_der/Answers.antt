@@ -9,6 +9,11 @@ use Rattle.spki.proofs.algorithm.AlgorithmIdentifier+Any.from_der.Goals as goal
 pub returns-in-Err : goal.returns-in-Err
 returns-in-Err c = owned_refusal ReadsAlgorithmRef ReadsAlgorithm (plain_algorithm plain_any) c.args.bytes.now c.in-Err.error
     (same_algorithms (record {
-      of = λ p t fits. record { tag = record { byte = p.tag; valid = t }; value = record c.args.bytes { now = p.content }; small = content_fits p.tag p.content fits };
+      of = λ p t fits. record {
+        tag = record { byte = p.tag; valid = t };
+        value = record c.args.bytes { now = p.content };
+        small =
+            content_fits p.tag p.content fits;
+      };
       is = λ p t fits. refl;
     })) c.in-Err.ensures

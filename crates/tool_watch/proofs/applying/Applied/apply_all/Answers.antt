@@ -20,8 +20,10 @@ loop-place-preserved g c =
     let inv = c.loop-place.invariant in
     let done = c.in_ok-apply.ensures in
     record {
-      done = subst (λ (us : List PlainRequest). HaveReplies c.args.width c.args.source.now.list us c.apply.new.source.list c.args.self.now.replies.items c.apply.new.self.replies.items) same
-          (one_answered c.args.width c.args.source.now.list so_far c.loop-place.source.list c.apply.new.source.list c.args.self.now.replies.items c.loop-place.self.replies.items c.apply.new.self.replies.items
+      done = subst (λ (us : List PlainRequest). HaveReplies c.args.width c.args.source.now.list us c.apply.new.source.list c.args.self.now.replies.items
+          c.apply.new.self.replies.items) same
+          (one_answered c.args.width c.args.source.now.list so_far c.loop-place.source.list c.apply.new.source.list c.args.self.now.replies.items
+          c.loop-place.self.replies.items c.apply.new.self.replies.items
           c.deref.result.now done.reply.0 inv.done done.reply.1.0 done.reply.1.1);
       kept = done.kept;
       name = done.name ∙ inv.name;

@@ -9,5 +9,7 @@ returns-in_default-decode-clause-none g c = λ v content.
 
 pub returns-then-not-is_finished-clause-none : goal.returns-then-not-is_finished-clause-none
 returns-then-not-is_finished-clause-none g c = λ v content.
-    more_than_two g.Text.Decode.Reads g.Keys.Decode.Reads (g.met.Text.Decode c.lifetimes (search rules)).one_value (g.met.Keys.Decode c.lifetimes (search rules)).one_value
-    _ _ _ _ _ c.in-Ok.ensures.value c.in-Ok-decode.ensures.value (unless _ c.is_finished.ensures c.if-not-is_finished.true) v.text v.jwks (rw (c.new-at.ensures, c.rest.ensures) content)
+    more_than_two g.Text.Decode.Reads g.Keys.Decode.Reads (g.met.Text.Decode c.lifetimes (search rules)).one_value
+    (g.met.Keys.Decode c.lifetimes (search rules)).one_value
+    _ _ _ _ _ c.in-Ok.ensures.value c.in-Ok-decode.ensures.value (unless _ c.is_finished.ensures c.if-not-is_finished.true) v.text v.jwks
+    (rw (c.new-at.ensures, c.rest.ensures) content)
