@@ -14,6 +14,4 @@ mod groups;
 #[cfg(test)]
 mod lanes;
 #[cfg(test)]
-mod low_end;
-#[cfg(test)]
 mod texts;
