@@ -18,7 +18,7 @@ use std::sync::ledger::{Blank, Ledger};
 
 // Whether the encodings of the fronts of the bytes begin with their groups one by one, and are decoded to
 // the fronts.
-fn reads_back<E: Encoding>(alloc: Global, bytes: &[u8; 130]) -> bool {
+pub(crate) fn reads_back<E: Encoding>(alloc: Global, bytes: &[u8; 130]) -> bool {
     let mut groups = [0u8; 172];
     for group in 0..43 {
         E::encode_3bytes(
@@ -77,19 +77,32 @@ fn refused_from<E: Encoding, L: Ledger>(text: &[u8; 128], blank: Blank) -> bool
     refused && in_place == Err(InvalidEncodingError)
 }
 
-fn refused<E: Encoding>(text: &[u8; 128]) -> bool {
+pub(crate) fn refused<E: Encoding>(text: &[u8; 128]) -> bool {
     refused_from::<E, Brand>(text, Blank::new(1))
 }
 
-#[test]
-fn sees_a_bad_character_in_each_lane(rt: HostRuntime) {
-    bad_part_takes();
-    assert!(rt; !refused::<Base64>(&[b'A'; 128]));
+// Whether a bad character at each of the 128 places is seen, and none where there is none.
+fn sees_each<E: Encoding>() -> bool {
+    let mut seen = !refused::<E>(&[b'A'; 128]);
     for at in 0..128 {
         let mut text = [b'A'; 128];
         text[at] = b'!';
-        assert!(rt; refused::<Base64>(&text), "bad at {at}");
+        seen &= refused::<E>(&text);
     }
+    seen
+}
+
+#[test]
+fn see_a_bad_character_in_each_lane(rt: HostRuntime) {
+    bad_part_takes();
+    assert!(rt; sees_each::<Base64>());
+    assert!(rt; sees_each::<Base64Unpadded>());
+    assert!(rt; sees_each::<Base64Url>());
+    assert!(rt; sees_each::<Base64UrlUnpadded>());
+    assert!(rt; sees_each::<Base64Bcrypt>());
+    assert!(rt; sees_each::<Base64Crypt>());
+    assert!(rt; sees_each::<Base64ShaCrypt>());
+    assert!(rt; sees_each::<Base64Pbkdf2>());
 }
 
 fn converted_from<E: Alphabet, L: Ledger>(

@@ -14,4 +14,6 @@ mod groups;
 #[cfg(test)]
 mod lanes;
 #[cfg(test)]
+mod low_end;
+#[cfg(test)]
 mod texts;

@@ -187,7 +187,7 @@ pub(crate) fn is_read<E: Encoding>(alloc: Global, text: &str, bytes: &[u8]) -> b
 }
 
 // Whether each call agrees that these are the texts of the fronts of `BYTES`, shortest first and parted by blanks.
-fn agrees<E: Encoding>(alloc: Global, texts: &str) -> bool {
+pub(crate) fn agrees<E: Encoding>(alloc: Global, texts: &str) -> bool {
     let mut agreed = true;
     for (n, text) in texts.split(' ').enumerate() {
         let bytes = &BYTES[..n.min(12)];
