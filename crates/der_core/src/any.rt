@@ -31,7 +31,8 @@ impl<'a> AnyRef<'a> {
     ghost use Rattle.der_core.specs.Tag.{byte_of};
     ghost use Rattle.der_core.specs.Tags.{null_tag};
 
-    /// A value of this tag and content. One of nearly 2^32 bytes can be made, but not written: its header counts there.
+    /// A value of this tag and content: `Overlength` from 2^32 bytes of content on. One of nearly 2^32 bytes can be made, but not written: its
+    /// header counts there.
     pub fn new(tag: Tag, value: &'a [u8]) -> Result<AnyRef<'a>, Error>
         ensures value { IfOk result (λ v. plain_ref v ≡ record { tag = byte_of tag; content = value.now }) }
         ensures fits { IfOk result (λ v. length value.now < 2 ^ 32) }
@@ -71,7 +72,8 @@ impl<'a> AnyRef<'a> {
         self.tag.byte() == Tag::NULL && self.value.is_empty()
     }
 
-    /// Reads the content as a value of a type that has one tag.
+    /// Reads the content as a value of a type that has one tag: `TagUnexpected` where this value has another tag, `Malformed` where the content
+    /// is that of no value of the type.
     pub fn decode_as<T: DecodeValue<'a> + FixedTag>(&self) -> Result<T, Error>
         ensures { DecodedAs T.tag T.HasContent (plain_ref self.now).tag (plain_ref self.now).content result }
     {
@@ -86,7 +88,7 @@ impl<'a> AnyRef<'a> {
         T::decode_value(&mut cursor)
     }
 
-    /// The same value with bytes of its own, for when the input doesn't live long enough.
+    /// The same value with bytes of its own, for when the input doesn't live long enough. `OutOfMemory` alone refuses it.
     pub fn ref_to_owned(&self, alloc: Global) -> Result<Any, Error>
         ensures { MatchResult result (λ v. plain_any v ≡ plain_ref self.now) (λ e. e ≡ Error.OutOfMemory) }
     {
@@ -167,14 +169,15 @@ impl Any {
     ghost use Rattle.der_core.specs.Tag.{byte_of};
     ghost use Rattle.der_core.specs.Tags.{null_tag};
 
-    /// Reads one value of any tag and copies it.
+    /// Reads one value of any tag and copies it: `Malformed` where the bytes begin with no value, `TrailingData` where they have more behind it,
+    /// `OutOfMemory`.
     pub fn from_der(alloc: Global, bytes: &[u8]) -> Result<Any, Error>
         ensures { FromDerOwned plain_any ReadsPlain bytes.now result }
     {
         AnyRef::from_der(bytes)?.ref_to_owned(alloc)
     }
 
-    /// The value that another type's value is written as.
+    /// The value that another type's value is written as: `Overlength` where that would have 2^32 bytes or more, `OutOfMemory`.
     pub fn encode_from<T: Encode>(alloc: Global, value: &T) -> Result<Any, Error>
         ensures { EncodedFrom (T.encoding value.now) result }
     {
@@ -204,7 +207,7 @@ impl Any {
         &self.value
     }
 
-    /// Reads the content as a value of a type that has one tag.
+    /// Reads the content as a value of a type that has one tag, and refuses as `AnyRef::decode_as` does.
     pub fn decode_as<'a, T: DecodeValue<'a> + FixedTag>(&'a self) -> Result<T, Error>
         ensures { DecodedAs T.tag T.HasContent (plain_any self.now).tag (plain_any self.now).content result }
     {

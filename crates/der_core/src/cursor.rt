@@ -10,7 +10,7 @@ use crate::header::{first_byte, length_at, tag_at};
 use crate::{AnyRef, Error, Tag};
 use std::marker::Model;
 
-/// A reader over borrowed bytes. Contracts see the bytes that are left.
+/// A reader over borrowed bytes (X.690, 8.1), which takes one value after another. Contracts see the bytes that are left.
 #[derive(Drop)]
 pub struct Cursor<'a> {
     rest: &'a [u8],
@@ -56,7 +56,7 @@ impl<'a> Cursor<'a> {
         rest
     }
 
-    /// The tag of the next value, which stays there.
+    /// The tag of the next value, which stays there: none where nothing is left, or no tag of one byte stands there.
     pub fn peek_tag(&self) -> Option<Tag>
         ensures { NextTag self.now result }
     {
@@ -64,7 +64,7 @@ impl<'a> Cursor<'a> {
         Some(tag)
     }
 
-    /// Takes one value of any tag, header and content.
+    /// Takes one value of any tag, header and content. `Malformed` where the bytes that are left begin with no value; then all of them stay.
     pub fn read_value(&mut self) -> Result<AnyRef<'a>, Error>
         ensures value { IfOk result (λ v. self.old ≡ der_of (plain_ref v) ++ self.new) }
         ensures fits { IfOk result (λ v. length (der_of (plain_ref v)) < 2 ^ 32) }

@@ -8,7 +8,7 @@ ghost use Rattle.der_core.specs.Tag.{byte_of};
 use crate::cursor::any_at;
 use crate::{Cursor, Encode, EncodeValue, Error, Tag};
 
-/// What has one tag.
+/// A type whose values all have one tag (X.690, 8.1.2).
 pub trait FixedTag {
     ghost tag: { ℕ };
 
@@ -27,7 +27,7 @@ pub trait FixedTag {
 pub trait DecodeValue<'a>: Sized + Drop {
     ghost HasContent: { List ℕ → Self → Type 0 };
 
-    /// Takes all that is left, which is the content (`Cursor::take_rest`). Where it is the content of no value, it stays there.
+    /// Takes all that is left, which is the content (`Cursor::take_rest`). `Malformed` where it is the content of no value; then it stays there.
     fn decode_value(cursor: &mut Cursor<'a>) -> Result<Self, Error>
         ensures value { IfOk result (λ v. HasContent cursor.old v) }
         ensures malformed { IfErr result (λ e. e ≡ Error.Malformed) }
@@ -40,7 +40,7 @@ pub trait DecodeValue<'a>: Sized + Drop {
 pub trait Decode<'a>: Sized + Drop {
     ghost Reads: { List ℕ → Self → Type 0 };
 
-    /// Takes an encoding from the front of what is left.
+    /// Takes an encoding from the front of what is left. `Malformed` where none stands there; then all of it stays.
     fn decode(cursor: &mut Cursor<'a>) -> Result<Self, Error>
         ensures value { IfOk result (Front Reads cursor.old cursor.new) }
         ensures malformed { IfErr result (λ e. e ≡ Error.Malformed) }
@@ -50,7 +50,7 @@ pub trait Decode<'a>: Sized + Drop {
     // Each encoding is one value of the profile.
     ghost one_value: { (b : List ℕ) (v : Self) → Reads b v → IsValue b };
 
-    /// Reads all of the bytes as one value.
+    /// Reads all of the bytes as one value: `Malformed` where they begin with none, `TrailingData` where they have more behind it.
     final fn from_der(bytes: &'a [u8]) -> Result<Self, Error>
         ensures { FromDer Reads bytes.now result }
     {

@@ -12,11 +12,12 @@ use std::alloc::Global;
 pub trait EncodeValue {
     ghost content: { Self → List ℕ };
 
-    /// The length of the content.
+    /// The length of the content: `Overlength` from 2^32 bytes on.
     fn value_len(&self) -> Result<Length, Error>
         ensures { LengthOf (content self.now) result };
 
-    /// Writes the content. A refusal of the writer is passed on as it was, and after any error the writer was given a first part of the content at most.
+    /// Writes the content: `Overlength` where it has 2^32 bytes or more. A refusal of the writer is passed on as it was, and after any error the
+    /// writer was given a first part of the content at most.
     fn encode_value<W: Writer>(&self, writer: &mut W) -> Result<(), Error>
         ensures wrote { Wrote W.HasTold W.refusals W.last_refusal writer.old writer.new (content self.now) result }
         ensures count { W.refusals writer.old ≤ W.refusals writer.new }
@@ -27,11 +28,12 @@ pub trait EncodeValue {
 pub trait Encode {
     ghost encoding: { Self → List ℕ };
 
-    /// The length of the encoding, header included.
+    /// The length of the encoding, header included: `Overlength` from 2^32 bytes on.
     fn encoded_len(&self) -> Result<Length, Error>
         ensures { LengthOf (encoding self.now) result };
 
-    /// Writes the encoding. A refusal of the writer is passed on as it was, and after any error the writer was given a first part of the encoding at most.
+    /// Writes the encoding: `Overlength` where it would have 2^32 bytes or more. A refusal of the writer is passed on as it was, and after any
+    /// error the writer was given a first part of the encoding at most.
     fn encode<W: Writer>(&self, writer: &mut W) -> Result<(), Error>
         ensures wrote { Wrote W.HasTold W.refusals W.last_refusal writer.old writer.new (encoding self.now) result }
         ensures count { W.refusals writer.old ≤ W.refusals writer.new }
@@ -40,7 +42,7 @@ pub trait Encode {
     // The encoding is one value of the profile.
     ghost one_value: { (v : Self) → length (encoding v) < 2 ^ 32 → IsValue (encoding v) };
 
-    /// The encoding, in a vector of its own.
+    /// The encoding, in a vector of its own: `Overlength` where it would have 2^32 bytes or more, `OutOfMemory`.
     final fn to_der(&self, alloc: Global) -> Result<Vec<u8>, Error>
         ensures { ToDer (encoding self.now) result }
     {
@@ -51,29 +53,11 @@ pub trait Encode {
     }
 }
 
-/// How many bytes the tag and the length take.
-#[tactic(auto, using(crate::specs::LengthLaws::length_bytes_1, crate::specs::LengthLaws::length_bytes_2, crate::specs::LengthLaws::length_bytes_3, crate::specs::LengthLaws::length_bytes_4, crate::specs::LengthLaws::length_bytes_5))]
-fn header_len(n: u32) -> u32
-    ensures value { result ≡ 1 + length (length_bytes n) }
-    ensures small { result ≤ 6 }
-{
-    if n < 128 {
-        2
-    } else if n < 256 {
-        3
-    } else if n < 65536 {
-        4
-    } else if n < 16777216 {
-        5
-    } else {
-        6
-    }
-}
-
 /// The tag and the length, which are the first bytes of the array, and how many they are.
 #[tactic(auto, using(crate::specs::LengthLaws::length_bytes_1, crate::specs::LengthLaws::length_bytes_2, crate::specs::LengthLaws::length_bytes_3, crate::specs::LengthLaws::length_bytes_4, crate::specs::LengthLaws::length_bytes_5))]
 fn header(tag: u8, n: u32) -> ([u8; 6], usize)
     ensures bytes { take result.1 result.0 ≡ tag ∷ [] ++ length_bytes n }
+    ensures count { result.1 ≡ 1 + length (length_bytes n) }
     ensures len { result.1 ≤ 6 }
 {
     let a = (n / 16777216) as u8;
@@ -101,7 +85,8 @@ fn with_header(n: Length) -> Result<Length, Error>
     if n >= 4294967290 {
         return Err(Error::Overlength);
     }
-    Ok(Length::new(header_len(n) + n))
+    let (_, len) = header(0, n);
+    Ok(Length::new(len as u32 + n))
 }
 
 impl<T: EncodeValue + FixedTag> Encode for T {
@@ -118,7 +103,7 @@ impl<T: EncodeValue + FixedTag> Encode for T {
     }
 }
 
-/// Writes the value of this tag whose content is that of another value, as an implicit tag asks.
+/// Writes the value of this tag whose content is that of another value, as an implicit tag asks (X.690, 8.14). It refuses as `Encode::encode` does.
 pub fn encode_tagged<T: EncodeValue, W: Writer>(
     tag: Tag,
     value: &T,
@@ -135,7 +120,7 @@ pub fn encode_tagged<T: EncodeValue, W: Writer>(
     value.encode_value(writer)
 }
 
-/// The length of a value of that content, header included. It is the same for each tag.
+/// The length of a value of that content, header included: `Overlength` from 2^32 bytes on. It is the same for each tag.
 pub fn tagged_len<T: EncodeValue>(value: &T) -> Result<Length, Error>
     ensures { (tag : ℕ) → LengthOf (encode tag (T.content value.now)) result }
 {

@@ -2,7 +2,7 @@
 use crate::{Error, Result};
 use std::marker::Model;
 
-/// How many bytes a content or an encoding has.
+/// How many bytes a content or an encoding has (X.690, 8.1.3), below 2^32.
 #[derive(Clone, Copy, Debug, PartialEq, Eq, PartialOrd, Ord, Hash)]
 pub struct Length {
     number: u32,
@@ -35,7 +35,7 @@ impl Length {
         self.number
     }
 
-    /// The length of two fields, one behind the other.
+    /// The length of two fields, one behind the other: `Overlength` where it reaches 2^32.
     pub fn checked_add(self, other: Length) -> Result<Length>
         ensures { MatchResult result (λ n. n ≡ self + other) (λ e. (e ≡ Error.Overlength) × (2 ^ 32 ≤ self + other)) }
     {

@@ -28,7 +28,8 @@ impl ObjectIdentifier {
     ghost use Rattle.der_core.specs.ObjectIdentifier.{oid_content};
     ghost use Rattle.der_core.specs.Oid.{IsOidContent, arcs_of, oid_text};
 
-    /// Reads decimal arcs that are joined by dots.
+    /// Reads decimal arcs that are joined by dots. `OidMalformed` where the text is that of no identifier whose content has at most 39 bytes
+    /// and whose numbers are below 2^32.
     pub fn new(text: &str) -> Result<Self, Error>
         ensures value { IfOk result (λ v. oid_text (oid_content v) ≡ text.now) }
         ensures malformed { IfErr result (λ e. e ≡ Error.OidMalformed) }
@@ -37,13 +38,14 @@ impl ObjectIdentifier {
         let Some(content) = content_of(text.as_bytes()) else {
             return Err(Error::OidMalformed);
         };
-        let Ok(oid) = ObjectIdentifier::from_bytes(content.as_bytes()) else {
+        let Ok(oid) = ObjectIdentifier::from_bytes(content.as_slice()) else {
             unreachable!()
         };
         Ok(oid)
     }
 
-    /// Takes the content, which is what follows tag and length.
+    /// Takes the content, which is what follows tag and length. `Malformed` where it is none: empty, of more than 39 bytes, not in the fewest
+    /// bytes, or with a number from 2^32 on.
     pub fn from_bytes(bytes: &[u8]) -> Result<Self, Error>
         ensures value { IfOk result (λ v. oid_content v ≡ bytes.now) }
         ensures content { IfOk result (λ v. IsOidContent bytes.now) }

@@ -6,11 +6,11 @@ ghost use Rattle.der_core.specs.Order.{Compared, after_lengths, option_order, co
 use crate::{Any, AnyRef, Encode, EncodeValue, Error, FixedTag, ObjectIdentifier};
 use std::cmp::Ordering;
 
-/// The order of encodings: tag, then length, then content.
+/// The order of encodings, as a SET OF has it (X.690, 11.6): tag, then length, then content.
 pub trait DerOrd {
     ghost der_order: { Self → Self → Option Answer };
 
-    /// Compares two encodings. Refused where a content that it reaches is too long to be written.
+    /// Compares two encodings. `Overlength` where a content that it reaches is too long to be written.
     fn der_cmp(&self, other: &Self) -> Result<Ordering, Error>
         ensures { Compared (der_order self.now other.now) result };
 }
@@ -19,7 +19,7 @@ pub trait DerOrd {
 pub trait ValueOrd {
     ghost value_order: { Self → Self → Option Answer };
 
-    /// Compares two contents. Refused where a part that it reaches is too long to be written.
+    /// Compares two contents. `Overlength` where a part that it reaches is too long to be written.
     fn value_cmp(&self, other: &Self) -> Result<Ordering, Error>
         ensures { Compared (value_order self.now other.now) result };
 }

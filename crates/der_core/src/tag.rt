@@ -35,7 +35,7 @@ impl Tag {
     /// The tag byte of a sequence.
     pub const SEQUENCE: u8 = 0x30;
 
-    /// Tags of several bytes, which begin with five low bits set, are not read here.
+    /// The tag of this byte. None for 0, and for the first byte of a tag of several bytes, which has its five low bits set.
     pub fn new(byte: u8) -> Option<Tag>
         ensures { MatchOption result (IsTag byte → ⊥) (λ tag. IsTag byte × (byte_of tag ≡ byte)) }
     {

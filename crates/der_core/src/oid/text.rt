@@ -5,23 +5,23 @@ ghost use Rattle.std.specs.Fmt.{decimal};
 ghost use Rattle.der_core.specs.Oid.{IsOidContent, EndsDigits, oid_text, subidentifier_bytes, first_arc, second_arc};
 
 use crate::header::first_byte;
-use std::marker::Model;
+use arrayvec::ArrayVec;
 
 /// The content that a text stands for.
 pub(crate) fn content_of(text: &[u8]) -> Option<Content>
-    ensures found { IfSome result IsOidContent }
-    ensures text { IfSome result (λ content. oid_text content ≡ text.now) }
+    ensures found { IfSome result (λ content. IsOidContent content.items) }
+    ensures text { IfSome result (λ content. oid_text content.items ≡ text.now) }
     ensures none { IfNone result ((content : List ℕ) → IsOidContent content → oid_text content ≡ text.now → ⊥) }
 {
     let (first, rest) = number_at(text)?;
     let (second, mut rest) = next_number(rest)?;
     let mut content = Content::new();
-    if !content.push(joined(first, second)?) {
+    if !push(&mut content, joined(first, second)?) {
         return None;
     }
     while !rest.is_empty() {
         let (number, after) = next_number(rest)?;
-        if !content.push(number) {
+        if !push(&mut content, number) {
             return None;
         }
         rest = after;
@@ -92,52 +92,17 @@ fn joined(first: u32, second: u32) -> Option<u32>
     (first * 40).checked_add(second)
 }
 
-/// A content in the making.
-#[derive(Drop)]
-pub(crate) struct Content {
-    bytes: [u8; 39],
-    len: usize,
-}
+/// A content in the making: at most 39 bytes.
+pub(crate) type Content = ArrayVec<u8, 39>;
 
-impl Model for Content {
-    ghost Value = { List ℕ };
-
-    ghost view = { λ c. take c.len c.bytes };
-
-    ghost invariant = { λ c. c.len ≤ 39 };
-}
-
-impl Content {
-    fn new() -> Content
-        ensures { result ≡ [] }
-    {
-        Content {
-            bytes: [0; 39],
-            len: 0,
-        }
-    }
-
-    /// Adds a subidentifier, where it has room.
-    fn push(&mut self, n: u32) -> bool
-        ensures pushed { OnTrue result (self.new ≡ self.old ++ subidentifier_bytes n) }
-        ensures room { OnTrue result (length self.new ≤ 39) }
-        ensures full { OnFalse result (39 < length self.old + length (subidentifier_bytes n)) }
-    {
-        let (bytes, count) = spelling(n);
-        if count > 39 - self.len {
-            return false;
-        }
-        let end = self.len + count;
-        self.bytes[self.len..end].copy_from_slice(&bytes[..count]);
-        self.len = end;
-        true
-    }
-
-    pub(crate) fn as_bytes(&self) -> &[u8]
-        ensures { result.now ≡ self.now }
-    {
-        &self.bytes[..self.len]
-    }
+/// Adds a subidentifier, where there is room.
+fn push(content: &mut Content, n: u32) -> bool
+    ensures pushed { OnTrue result (content.new.items ≡ content.old.items ++ subidentifier_bytes n) }
+    ensures room { OnTrue result (length content.new.items ≤ 39) }
+    ensures full { OnFalse result (39 < length content.old.items + length (subidentifier_bytes n)) }
+{
+    let (bytes, count) = spelling(n);
+    content.try_extend_from_slice(&bytes[..count]).is_ok()
 }
 
 /// A subidentifier in the fewest bytes, which are the first of the array, and how many they are.

@@ -31,14 +31,14 @@ returns-then-not-push-clause-none c = λ content ok same.
     let long : length (subidentifier_bytes c.in_ok-joined.field-0) ≤ length content =
     continues_length content (subidentifier_bytes n) c.in_ok-second.rest.now ok (are_one n c.in_ok-joined.ensures.small) only in
     let short : length content ≤ 39 = ok.short in
-    let empty : length c.new-content.result ≡ 0 = ap length c.new-content.ensures in
-    let full : 39 < length c.new-content.result + length (subidentifier_bytes c.in_ok-joined.field-0) = c.if-not-push.ensures.full in
+    let empty : length c.new-content.result.items ≡ 0 = ap length c.new-content.ensures in
+    let full : 39 < length c.new-content.result.items + length (subidentifier_bytes c.in_ok-joined.field-0) = c.if-not-push.ensures.full in
     omega arith
 
 pub loop-rest-init : goal.loop-rest-init
 loop-rest-init c =
     let n : ℕ = c.in_ok-joined.field-0 in
-    let is : c.push.new.self ≡ subidentifier_bytes c.in_ok-joined.field-0 = c.if-not-push.ensures.pushed
+    let is : c.push.new.content.items ≡ subidentifier_bytes c.in_ok-joined.field-0 = c.if-not-push.ensures.pushed
     ∙ ap (λ (s : List ℕ). s ++ subidentifier_bytes n) c.new-content.ensures in
     let text : oid_text (subidentifier_bytes n) ≡ decimal c.in_ok-first.first ++ (46 ∷ decimal c.in_ok-second.second) =
     text_one n c.in_ok-joined.ensures.small
@@ -62,22 +62,22 @@ loop-rest-init c =
 pub returns-in_err-number-clause-none : goal.returns-in_err-number-clause-none
 returns-in_err-number-clause-none c =
     let some : length c.loop-rest.rest.now ≡ 0 → ⊥ = eqb-false (length c.loop-rest.rest.now) 0 (sym c.is_empty.ensures ∙ c.loop-rest-test.true) in
-    if_none c.from_residual-in_err-number.result (λ content ok same. no_next content c.loop-rest.content c.loop-rest.rest.now ok
+    if_none c.from_residual-in_err-number.result (λ content ok same. no_next content c.loop-rest.content.items c.loop-rest.rest.now ok
     (c.loop-rest.invariant.only content ok same) (omega arith) c.in_err-number.ensures.none)
 
 pub returns-then-not-push-2-clause-none : goal.returns-then-not-push-2-clause-none
 returns-then-not-push-2-clause-none c = λ content ok same.
-    no_room content c.loop-rest.content c.loop-rest.rest.now c.in_ok-number.after.now c.in_ok-number.number ok c.loop-rest.invariant.spelt
+    no_room content c.loop-rest.content.items c.loop-rest.rest.now c.in_ok-number.after.now c.in_ok-number.number ok c.loop-rest.invariant.spelt
     (c.loop-rest.invariant.only content ok same) c.in_ok-number.ensures.found c.in_ok-number.ensures.small c.in_ok-number.ensures.ended
     c.if-not-push-2.ensures.full
 
 pub loop-rest-preserved : goal.loop-rest-preserved
 loop-rest-preserved c =
     let n : ℕ = c.in_ok-number.number in
-    let before : List ℕ = c.loop-rest.content in
+    let before : List ℕ = c.loop-rest.content.items in
     let small : n < 2 ^ 32 = c.in_ok-number.ensures.small in
-    let is : c.push-in-loop-rest.new.self ≡ c.loop-rest.content ++ subidentifier_bytes c.in_ok-number.number = c.if-not-push-2.ensures.pushed in
-    let some : 1 ≤ length c.loop-rest.content = c.loop-rest.invariant.some in
+    let is : c.push-in-loop-rest.new.content.items ≡ c.loop-rest.content.items ++ subidentifier_bytes c.in_ok-number.number = c.if-not-push-2.ensures.pushed in
+    let some : 1 ≤ length c.loop-rest.content.items = c.loop-rest.invariant.some in
     let text = text_push before n c.loop-rest.invariant.spelt some small in
     record {
       spelt = rw is (are_push before n c.loop-rest.invariant.spelt small);
