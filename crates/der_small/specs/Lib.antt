@@ -6,6 +6,7 @@ pub mod OctetString
 pub mod Utf8
 pub mod Document
 pub mod Files
+pub mod KeyFiles
 pub mod OneValue
 pub mod SecretDocument
 pub use Rattle.identity_io.specs.Causes

@@ -17,7 +17,7 @@ pub struct BitStringRef<'a> {
     ghost are_bits: { AreBits unused_bits raw.now },
 }
 
-/// A bit string with bytes of its own.
+/// A bit string with bytes of its own (X.690, 8.6).
 #[derive(Debug, Drop, PartialEq, Eq, PartialOrd, Ord, Hash)]
 pub struct BitString {
     unused_bits: u8,
@@ -30,7 +30,8 @@ impl<'a> BitStringRef<'a> {
     ghost use Rattle.der_small.specs.Bits.{AreBits, HasBadCount};
     ghost use Rattle.der_small.specs.BitString.{plain_bits_ref, plain_bits};
 
-    /// `unused_bits` counts the low bits of the last octet that are no part of the string.
+    /// `unused_bits` counts the low bits of the last octet that are no part of the string. `Malformed` where it is above 7, or isn't 0 and
+    /// there are no octets; `Overlength` from 2^32 - 1 octets on.
     pub fn new(unused_bits: u8, raw: &'a [u8]) -> Result<Self, Error>
         ensures value { IfOk result (λ v. plain_bits_ref v ≡ record { unused_bits = unused_bits; octets = raw.now }) }
         ensures bits { OnOk result (AreBits unused_bits raw.now) }
@@ -61,7 +62,7 @@ impl<'a> BitStringRef<'a> {
         self.raw
     }
 
-    /// The same string with bytes of its own.
+    /// The same string with bytes of its own. `OutOfMemory` alone refuses it.
     pub fn ref_to_owned(&self, alloc: Global) -> Result<BitString, Error>
         ensures { MatchResult result (λ v. plain_bits v ≡ plain_bits_ref self.now) (λ e. e ≡ Error.OutOfMemory) }
     {
@@ -147,7 +148,8 @@ impl BitString {
     ghost use Rattle.der_small.specs.Bits.{BitsContent};
     ghost use Rattle.der_small.specs.BitString.{plain_bits_ref, plain_bits};
 
-    /// Reads one bit string and copies it.
+    /// Reads one bit string and copies it: `Malformed` where the bytes begin with none, `TrailingData` where they have more behind it,
+    /// `OutOfMemory`.
     pub fn from_der(alloc: Global, bytes: &[u8]) -> Result<BitString, Error>
         ensures { FromDerOwned plain_bits (ReadsTagged bit_string_tag BitsContent) bytes.now result }
     {

@@ -15,7 +15,7 @@ pub struct OctetStringRef<'a> {
     ghost small: { length bytes.now < 2 ^ 32 },
 }
 
-/// An octet string with bytes of its own.
+/// An octet string with bytes of its own (X.690, 8.7).
 #[derive(Debug, Drop, PartialEq, Eq, PartialOrd, Ord, Hash)]
 pub struct OctetString {
     bytes: Vec<u8>,
@@ -26,7 +26,7 @@ impl<'a> OctetStringRef<'a> {
     ghost use Rattle.std.specs.Prelude.{◌≡◌, ◌<◌, ◌≤◌, ◌^◌, length, IfOk, IfErr, OnOk, MatchResult};
     ghost use Rattle.der_small.specs.OctetString.{octets_ref, octets};
 
-    /// A string of these octets, which are not read.
+    /// A string of these octets, which are not read: `Overlength` from 2^32 on.
     pub fn new(bytes: &'a [u8]) -> Result<Self, Error>
         ensures value { IfOk result (λ v. octets_ref v ≡ bytes.now) }
         ensures fits { OnOk result (length bytes.now < 2 ^ 32) }
@@ -45,7 +45,7 @@ impl<'a> OctetStringRef<'a> {
         self.bytes
     }
 
-    /// The same string with bytes of its own.
+    /// The same string with bytes of its own. `OutOfMemory` alone refuses it.
     pub fn ref_to_owned(&self, alloc: Global) -> Result<OctetString, Error>
         ensures { MatchResult result (λ v. octets v ≡ octets_ref self.now) (λ e. e ≡ Error.OutOfMemory) }
     {
@@ -123,7 +123,8 @@ impl OctetString {
     ghost use Rattle.der_core.specs.Tags.{octet_string_tag};
     ghost use Rattle.der_small.specs.OctetString.{octets_ref, octets};
 
-    /// Reads one octet string and copies it.
+    /// Reads one octet string and copies it: `Malformed` where the bytes begin with none, `TrailingData` where they have more behind it,
+    /// `OutOfMemory`.
     pub fn from_der(alloc: Global, bytes: &[u8]) -> Result<OctetString, Error>
         ensures { FromDerOwned octets (ReadsTagged octet_string_tag (λ content octets. octets ≡ content)) bytes.now result }
     {

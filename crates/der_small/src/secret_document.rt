@@ -20,7 +20,8 @@ impl SecretDocument {
     ghost use Rattle.der_small.specs.Files.{FileCause, ReadsFile};
     ghost use Rattle.der_small.specs.OneValue.{IsOneValue, EncodedAs};
 
-    /// Copies the bytes, where they are one value.
+    /// Copies the bytes, where they are one value: `Malformed` where they begin with none, `TrailingData` where they have more behind it,
+    /// `OutOfMemory`.
     pub fn from_der(alloc: Global, bytes: &[u8]) -> Result<SecretDocument, Error>
         ensures { FromDerOwned secret_bytes IsOneValue bytes.now result }
     {
@@ -43,14 +44,15 @@ impl SecretDocument {
         self.document.len()
     }
 
-    /// Reads the bytes as a value of another type.
+    /// Reads the bytes as a value of another type: `Malformed` where they begin with no encoding of one, `TrailingData` where they have more
+    /// behind it.
     pub fn decode_msg<'a, T: Decode<'a>>(&'a self) -> Result<T, Error>
         ensures { FromDer T.Reads (secret_bytes self.now) result }
     {
         self.document.decode_msg()
     }
 
-    /// The document that a value is written as.
+    /// The document that a value is written as: `Overlength` where it would have 2^32 bytes or more, `OutOfMemory`.
     pub fn encode_msg<T: Encode>(alloc: Global, value: &T) -> Result<SecretDocument, Error>
         ensures { EncodedAs secret_bytes (T.encoding value.now) result }
     {
@@ -59,7 +61,8 @@ impl SecretDocument {
         })
     }
 
-    /// Reads a file of at most 16 MiB that holds exactly one value.
+    /// Reads a file of at most 16 MiB that holds exactly one value: `FileMissing`, `FileTooLong`, `FileFault` or `OutOfMemory` where the bytes
+    /// can't be had, and else the refusals of `from_der`.
     pub fn read_der_file<D: Disk>(
         alloc: Global,
         disk: &mut D,
@@ -74,7 +77,7 @@ impl SecretDocument {
         })
     }
 
-    /// Writes the bytes to a file.
+    /// Writes the bytes to a file: `FileFault` where the disk fails, which may leave a first part of them there, or `OutOfMemory`.
     pub fn write_der_file<D: Disk>(&self, disk: &mut D, path: &str) -> Result<(), Error>
         ensures wrote { Wrote path.now (secret_bytes self.now) (D.files disk.old) (D.files disk.new) result }
         ensures answers { IfErr result (λ e. (e ≡ Error.FileFault) ⊎ (e ≡ Error.OutOfMemory)) }

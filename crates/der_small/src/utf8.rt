@@ -20,7 +20,7 @@ impl<'a> Utf8Ref<'a> {
     ghost use Rattle.std.specs.Prelude.{◌≡◌, ◌<◌, ◌≤◌, ◌^◌, length, IfOk, IfErr, OnOk};
     ghost use Rattle.der_small.specs.Utf8.{text_ref};
 
-    /// A text as a value.
+    /// A text as a value: `Overlength` from 2^32 bytes on.
     pub fn new(text: &'a str) -> Result<Self, Error>
         ensures value { IfOk result (λ v. text_ref v ≡ text.now) }
         ensures fits { OnOk result (length text.now < 2 ^ 32) }

@@ -3,6 +3,7 @@ use Rattle.std.specs.Prelude.{ℕ, List, ◌++◌, codes}
 use Rattle.der_core.specs.Error.{error_text as der_error_text}
 use Rattle.der_core.specs.declared.error.Error.{Error as DerError}
 use Rattle.der_core.specs.declared.error.Error.TheVariants as der
+use Rattle.der_small.specs.KeyFiles.{Kind, Der, Memory, Other}
 use Rattle.spki.specs.Error.{error_text as spki_error_text}
 use Rattle.spki.specs.declared.error.Error.{Error as SpkiError}
 use Rattle.spki.specs.declared.error.Error.TheVariants as spki
@@ -26,6 +27,12 @@ error_text OutOfMemory = codes "out of memory"
 abbrev pub from_der_error : DerError → Error
 from_der_error der.OutOfMemory = OutOfMemory
 from_der_error e = Asn1 e
+
+-- What an error is in the words of key files.
+abbrev pub kind_of : Error → Kind
+kind_of (Asn1 e) = Der e
+kind_of OutOfMemory = Memory
+kind_of _ = Other
 
 abbrev pub from_spki_error : SpkiError → Error
 from_spki_error spki.OutOfMemory = OutOfMemory

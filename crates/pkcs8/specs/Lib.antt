@@ -3,7 +3,6 @@ pub mod Answers
 pub mod Attributes
 pub mod Error
 pub mod Extensions
-pub mod KeyFiles
 pub mod PlainPrivateKey
 pub mod PrivateKey
 pub mod PrivateKeyInfo

@@ -5,7 +5,8 @@ ghost use Rattle.der_small.specs.SecretDocument.{secret_bytes};
 ghost use Rattle.pkcs8.specs.Answers.{IsOfAFile, GivesValue, GivesBytes};
 ghost use Rattle.std.specs.Option.{ForSome};
 ghost use Rattle.identity_io.specs.Files.{file_at};
-ghost use Rattle.pkcs8.specs.KeyFiles.{KeyFileCause, ReadsKeyFile, WritesKeyFile};
+ghost use Rattle.der_small.specs.KeyFiles.{KeyFileCause, ReadsKeyFile, WritesKeyFile};
+ghost use Rattle.pkcs8.specs.Error.{from_der_error, kind_of};
 ghost use Rattle.pkcs8.specs.PlainPrivateKey.{bits_content};
 ghost use Rattle.pkcs8.specs.declared.error.Error.{Error as Refusal};
 
@@ -63,9 +64,9 @@ pub trait DecodePrivateKey: Sized + Drop {
 
     /// Reads a key from a file, which is read as a document first. A file of more than 16,777,216 bytes is not read.
     final fn read_pkcs8_der_file<D: Disk>(alloc: Global, disk: &mut D, path: &str) -> Result<Self>
-        ensures read { ForSome (D.files disk.old) (λ known. ReadsKeyFile plain HasAnswer (file_at path.now known) result) }
+        ensures read { ForSome (D.files disk.old) (λ known. ReadsKeyFile kind_of plain HasAnswer (file_at path.now known) result) }
         ensures kept { D.files disk.new ≡ D.files disk.old }
-        ensures cause { KeyFileCause (D.faults disk.old) (D.faults disk.new) result }
+        ensures cause { KeyFileCause from_der_error (D.faults disk.old) (D.faults disk.new) result }
     {
         read_key_file(alloc, disk, path)
     }
@@ -92,8 +93,8 @@ pub trait EncodePrivateKey {
         disk: &mut D,
         path: &str,
     ) -> Result<()>
-        ensures wrote { WritesKeyFile (document self.now) path.now (D.files disk.old) (D.files disk.new) result }
-        ensures cause { KeyFileCause (D.faults disk.old) (D.faults disk.new) result }
+        ensures wrote { WritesKeyFile from_der_error (document self.now) path.now (D.files disk.old) (D.files disk.new) result }
+        ensures cause { KeyFileCause from_der_error (D.faults disk.old) (D.faults disk.new) result }
     {
         write_key_file(self, alloc, disk, path)
     }

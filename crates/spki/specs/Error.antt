@@ -5,6 +5,7 @@ use Rattle.der_core.specs.Oid.{oid_text}
 use Rattle.der_core.specs.ObjectIdentifier.{oid_content}
 use Rattle.der_core.specs.declared.error.Error.{Error as DerError}
 use Rattle.der_core.specs.declared.error.Error.TheVariants as der
+use Rattle.der_small.specs.KeyFiles.{Kind, Der, Memory, Other}
 use Rattle.spki.specs.declared.error.Error.{Error}
 use Rattle.spki.specs.declared.error.Error.TheVariants.{AlgorithmParametersMissing, Asn1, KeyMalformed, OidUnknown, OutOfMemory}
 
@@ -20,3 +21,9 @@ abbrev pub from_der_error : DerError → Error
 from_der_error (der.OidUnknown oid) = OidUnknown oid
 from_der_error der.OutOfMemory = OutOfMemory
 from_der_error e = Asn1 e
+
+-- What an error is in the words of key files.
+abbrev pub kind_of : Error → Kind
+kind_of (Asn1 e) = Der e
+kind_of OutOfMemory = Memory
+kind_of _ = Other

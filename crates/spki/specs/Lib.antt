@@ -7,7 +7,6 @@ pub mod WrittenAlike
 pub mod Error
 pub mod Fingerprint
 pub mod Identifier
-pub mod KeyFiles
 pub mod PlainAlgorithm
 pub mod PlainPublicKey
 pub mod PublicKey

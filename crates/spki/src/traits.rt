@@ -8,7 +8,8 @@ ghost use Rattle.spki.specs.declared.error.Error.{Error as Refusal};
 ghost use Rattle.spki.specs.Answers.{IsOfAFile, GivesValue, GivesBytes, GivesBits};
 ghost use Rattle.std.specs.Option.{ForSome};
 ghost use Rattle.identity_io.specs.Files.{file_at};
-ghost use Rattle.spki.specs.KeyFiles.{KeyFileCause, ReadsKeyFile, WritesKeyFile};
+ghost use Rattle.der_small.specs.KeyFiles.{KeyFileCause, ReadsKeyFile, WritesKeyFile};
+ghost use Rattle.spki.specs.Error.{from_der_error, kind_of};
 ghost use Rattle.spki.specs.Identifier.{Identifier, OwnedIdentifier, identifier_of};
 
 use crate::key_file::{read_key_file, write_key_file};
@@ -43,9 +44,9 @@ pub trait DecodePublicKey: Sized + Drop {
         disk: &mut D,
         path: &str,
     ) -> Result<Self>
-        ensures read { ForSome (D.files disk.old) (λ known. ReadsKeyFile plain HasAnswer (file_at path.now known) result) }
+        ensures read { ForSome (D.files disk.old) (λ known. ReadsKeyFile kind_of plain HasAnswer (file_at path.now known) result) }
         ensures kept { D.files disk.new ≡ D.files disk.old }
-        ensures cause { KeyFileCause (D.faults disk.old) (D.faults disk.new) result }
+        ensures cause { KeyFileCause from_der_error (D.faults disk.old) (D.faults disk.new) result }
     {
         read_key_file(alloc, disk, path)
     }
@@ -71,8 +72,8 @@ pub trait EncodePublicKey {
         disk: &mut D,
         path: &str,
     ) -> Result<()>
-        ensures wrote { WritesKeyFile (document self.now) path.now (D.files disk.old) (D.files disk.new) result }
-        ensures cause { KeyFileCause (D.faults disk.old) (D.faults disk.new) result }
+        ensures wrote { WritesKeyFile from_der_error (document self.now) path.now (D.files disk.old) (D.files disk.new) result }
+        ensures cause { KeyFileCause from_der_error (D.faults disk.old) (D.faults disk.new) result }
     {
         write_key_file(self, alloc, disk, path)
     }
