@@ -56,9 +56,7 @@ impl<'a, Params: Choice<'a>> DecodeValue<'a> for AlgorithmIdentifier<Params> {
 
     fn decode_value(cursor: &mut Cursor<'a>) -> der_small::Result<Self> {
         let mut at = Cursor::new(cursor.rest());
-        let Ok(oid) = ObjectIdentifier::decode(&mut at) else {
-            return Err(der_small::Error::Malformed);
-        };
+        let oid = ObjectIdentifier::decode(&mut at)?;
         if at.is_finished() {
             cursor.take_rest();
             return Ok(AlgorithmIdentifier {
@@ -66,9 +64,7 @@ impl<'a, Params: Choice<'a>> DecodeValue<'a> for AlgorithmIdentifier<Params> {
                 parameters: None,
             });
         }
-        let Ok(parameters) = Params::decode(&mut at) else {
-            return Err(der_small::Error::Malformed);
-        };
+        let parameters = Params::decode(&mut at)?;
         if !at.is_finished() {
             return Err(der_small::Error::Malformed);
         }
@@ -133,7 +129,7 @@ fn only_wanted(held: ObjectIdentifier, wanted: ObjectIdentifier) -> Result<Objec
 }
 
 impl<Params> AlgorithmIdentifier<Params> {
-    /// Takes the identifier only if it is the one that the caller can work with.
+    /// Takes the identifier only if it is the one that the caller can work with: `OidUnknown` with what is held where it is another.
     pub fn assert_algorithm_oid(&self, expected_oid: ObjectIdentifier) -> Result<ObjectIdentifier>
         ensures value { IfOk result (λ oid. oid_content oid ≡ oid_content expected_oid) }
         ensures held { OnOk result (oid_content self.now.oid ≡ oid_content expected_oid) }
@@ -145,14 +141,15 @@ impl<Params> AlgorithmIdentifier<Params> {
 }
 
 impl<'a> AlgorithmIdentifier<AnyRef<'a>> {
-    /// Takes the parameters only if they are the object identifier that the caller can work with.
+    /// Takes the parameters only if they are the object identifier that the caller can work with: the refusals of `parameters_oid`, and
+    /// `OidUnknown` with what is held where they are another.
     pub fn assert_parameters_oid(&self, expected_oid: ObjectIdentifier) -> Result<ObjectIdentifier>
         ensures { WantedParameters (plain_algorithm plain_ref self.now).parameters (oid_content expected_oid) result }
     {
         only_wanted(self.parameters_oid()?, expected_oid)
     }
 
-    /// Takes both, the algorithm first.
+    /// Takes both, the algorithm first: the refusals of `assert_algorithm_oid`, and then those of `assert_parameters_oid`.
     pub fn assert_oids(
         &self,
         algorithm: ObjectIdentifier,
@@ -165,7 +162,7 @@ impl<'a> AlgorithmIdentifier<AnyRef<'a>> {
         Ok(())
     }
 
-    /// The parameters, whatever they are.
+    /// The parameters, whatever they are: `AlgorithmParametersMissing` where there are none.
     pub fn parameters_any(&self) -> Result<AnyRef<'a>>
         ensures value { IfOk result (λ v. self.now.parameters ≡ Some v) }
         ensures missing { IfErr result (λ e. e ≡ Error.AlgorithmParametersMissing) }
@@ -177,14 +174,16 @@ impl<'a> AlgorithmIdentifier<AnyRef<'a>> {
         }
     }
 
-    /// The parameters as an object identifier, such as that of a curve.
+    /// The parameters as an object identifier, such as that of a curve: `AlgorithmParametersMissing` where there are none, and within `Asn1`
+    /// `TagUnexpected` where they are of another tag, `Malformed` where their content is that of no identifier.
     pub fn parameters_oid(&self) -> Result<ObjectIdentifier>
         ensures { ParametersOid (plain_algorithm plain_ref self.now).parameters result }
     {
         Ok(self.parameters_any()?.decode_as()?)
     }
 
-    /// The algorithm, and the parameters as an object identifier where they are neither absent nor NULL.
+    /// The algorithm, and the parameters as an object identifier where they are neither absent nor NULL: `TagUnexpected` where they are of
+    /// another tag, `Malformed` where their content is that of no identifier.
     pub fn oids(&self) -> der_small::Result<(ObjectIdentifier, Option<ObjectIdentifier>)>
         ensures algorithm { IfOk result (λ oids. oids.0 ≡ self.now.oid) }
         ensures parameters { AreOids (plain_algorithm plain_ref self.now).parameters result }
@@ -202,7 +201,7 @@ impl<'a> AlgorithmIdentifier<AnyRef<'a>> {
         Ok((self.oid, parameters))
     }
 
-    /// The same identifier with bytes of its own, for when the input doesn't live long enough.
+    /// The same identifier with bytes of its own, for when the input doesn't live long enough. `OutOfMemory` alone refuses it.
     pub fn ref_to_owned(&self, alloc: Global) -> Result<AlgorithmIdentifierOwned>
         ensures { MatchResult result (λ v. plain_algorithm plain_any v ≡ plain_algorithm plain_ref self.now) (λ e. e ≡ Error.OutOfMemory) }
     {
@@ -218,7 +217,8 @@ impl<'a> AlgorithmIdentifier<AnyRef<'a>> {
 }
 
 impl AlgorithmIdentifier<Any> {
-    /// Reads one identifier and copies its parameters.
+    /// Reads one identifier and copies its parameters: `Malformed` where the bytes begin with none, `TrailingData` where they have more behind it,
+    /// `OutOfMemory`.
     pub fn from_der(alloc: Global, bytes: &[u8]) -> der_small::Result<Self>
         ensures { FromDerOwned (plain_algorithm plain_any) ReadsAlgorithm bytes.now result }
     {

@@ -56,12 +56,8 @@ impl<'a, Params: Choice<'a>, Key: Decode<'a>> DecodeValue<'a>
 
     fn decode_value(cursor: &mut Cursor<'a>) -> der_small::Result<Self> {
         let mut at = Cursor::new(cursor.rest());
-        let Ok(algorithm) = AlgorithmIdentifier::<Params>::decode(&mut at) else {
-            return Err(der_small::Error::Malformed);
-        };
-        let Ok(subject_public_key) = Key::decode(&mut at) else {
-            return Err(der_small::Error::Malformed);
-        };
+        let algorithm = AlgorithmIdentifier::<Params>::decode(&mut at)?;
+        let subject_public_key = Key::decode(&mut at)?;
         if !at.is_finished() {
             return Err(der_small::Error::Malformed);
         }
@@ -116,7 +112,8 @@ impl<Params: Encode, Key: Encode> SubjectPublicKeyInfo<Params, Key> {
     ghost use Rattle.spki.specs.Fingerprint.{fingerprint_of, IsOverlength, IsOverlengthOrMemory};
     ghost use Rattle.spki.specs.PublicKey.{public_key_encoding};
 
-    /// The fingerprint as people compare it: 44 characters of padded Base64.
+    /// The fingerprint as people compare it: 44 characters of padded Base64. `Overlength` within `Asn1` where the document would have 2^32 bytes
+    /// or more, `OutOfMemory`.
     pub fn fingerprint_base64(&self, alloc: Global) -> Result<String>
         ensures value { IfOk result (λ text. string_bytes text ≡ fingerprint_of (public_key_encoding Params.encoding Key.encoding self.now)) }
         ensures len { IfOk result (λ text. length (string_bytes text) ≡ 44) }
@@ -132,6 +129,7 @@ impl<Params: Encode, Key: Encode> SubjectPublicKeyInfo<Params, Key> {
     }
 
     /// The fingerprint by which the key is known (RFC 7469, section 2.4): the SHA-256 digest of its document, which is not made for this.
+    /// `Overlength` within `Asn1` where that would have 2^32 bytes or more.
     pub fn fingerprint_bytes(&self) -> Result<FingerprintBytes>
         ensures value { IfOk result (λ digest. digest ≡ sha256 (public_key_encoding Params.encoding Key.encoding self.now)) }
         ensures fits { OnOk result (length (public_key_encoding Params.encoding Key.encoding self.now) < 2 ^ 32) }
@@ -143,7 +141,7 @@ impl<Params: Encode, Key: Encode> SubjectPublicKeyInfo<Params, Key> {
         Ok(hasher.finalize())
     }
 
-    /// The document in which the key is passed on.
+    /// The document in which the key is passed on: `Overlength` within `Asn1` where it would have 2^32 bytes or more, `OutOfMemory`.
     pub fn to_document(&self, alloc: Global) -> Result<Document>
         ensures value { IfOk result (λ document. document_bytes document ≡ public_key_encoding Params.encoding Key.encoding self.now) }
         ensures fits { OnOk result (length (public_key_encoding Params.encoding Key.encoding self.now) < 2 ^ 32) }
@@ -154,7 +152,7 @@ impl<Params: Encode, Key: Encode> SubjectPublicKeyInfo<Params, Key> {
 }
 
 impl<'a> SubjectPublicKeyInfo<AnyRef<'a>, BitStringRef<'a>> {
-    /// The same key with bytes of its own, for when the input doesn't live long enough.
+    /// The same key with bytes of its own, for when the input doesn't live long enough. `OutOfMemory` alone refuses it.
     pub fn ref_to_owned(&self, alloc: Global) -> Result<SubjectPublicKeyInfoOwned>
         ensures { MatchResult result (λ v. plain_public_key v ≡ plain_public_key_ref self.now) (λ e. e ≡ Error.OutOfMemory) }
     {
@@ -168,7 +166,7 @@ impl<'a> SubjectPublicKeyInfo<AnyRef<'a>, BitStringRef<'a>> {
 impl SubjectPublicKeyInfo<Any, BitString> {
     ghost use Rattle.spki.specs.Answers.{FromSource, ReadAnswer};
 
-    /// The public key that another type writes.
+    /// The public key that another type writes: the refusal of that type, or that of reading what it wrote, or `OutOfMemory`.
     pub fn from_key<T: EncodePublicKey>(alloc: Global, source: &T) -> Result<Self>
         ensures { FromSource plain_public_key (ReadAnswer ReadsPublicKey) (T.document source.now) result }
     {
@@ -176,7 +174,8 @@ impl SubjectPublicKeyInfo<Any, BitString> {
         Self::from_public_key_der(alloc, document.as_bytes())
     }
 
-    /// Reads one public key and copies it.
+    /// Reads one public key and copies it: `Malformed` where the bytes begin with none, `TrailingData` where they have more behind it,
+    /// `OutOfMemory`.
     pub fn from_der(alloc: Global, bytes: &[u8]) -> der_small::Result<Self>
         ensures { FromDerOwned plain_public_key ReadsPublicKey bytes.now result }
     {

@@ -30,7 +30,7 @@ pub trait DecodePublicKey: Sized + Drop {
     // The one answer to each list of bytes.
     ghost HasAnswer: { List ℕ → Answer Plain Refusal → Type 0 };
 
-    /// Reads the document of a key of this type.
+    /// Reads the document of a key of this type, and refuses as the type's `HasAnswer` says, or as `OutOfMemory`.
     fn from_public_key_der(alloc: Global, bytes: &[u8]) -> Result<Self>
         ensures { GivesValue plain HasAnswer bytes.now result };
 
@@ -38,7 +38,8 @@ pub trait DecodePublicKey: Sized + Drop {
 
     ghost no_file: { (bytes : List ℕ) (e : Refusal) → HasAnswer bytes (Err e) → IsOfAFile e → ⊥ };
 
-    /// Reads a key from a file, which is read as a document first. A file of more than 16,777,216 bytes is not read.
+    /// Reads a key from a file, which is read as a document first. Within `Asn1` it refuses as `Document::read_der_file` does, with `FileTooLong`
+    /// above 16,777,216 bytes, and behind that as `from_public_key_der` does.
     final fn read_public_key_der_file<D: Disk>(
         alloc: Global,
         disk: &mut D,
@@ -57,7 +58,7 @@ pub trait EncodePublicKey {
     // The one answer of each value: the bytes of its document, or why it has none.
     ghost document: { Self → Answer (List ℕ) Refusal };
 
-    /// The document of the key.
+    /// The document of the key, or the type's own refusal, or `OutOfMemory`.
     fn to_public_key_der(&self, alloc: Global) -> Result<Document>
         ensures { GivesBytes document_bytes (document self.now) result };
 
@@ -66,6 +67,7 @@ pub trait EncodePublicKey {
     /// Writes the document of the key to a file. `StdDisk` makes a new file that all may read, as far
     /// as the mask of the process lets them, and leaves an old file its permissions. It empties an old
     /// file before it writes: after a fault the file may hold a first part of the document, or nothing.
+    /// It refuses as `to_public_key_der` does, and then nothing is written, or as `FileFault` within `Asn1`.
     final fn write_public_key_der_file<D: Disk>(
         &self,
         alloc: Global,
@@ -95,7 +97,7 @@ pub trait AssociatedAlgorithmIdentifier {
 pub trait DynAssociatedAlgorithmIdentifier {
     ghost algorithm_of: { Self → Identifier };
 
-    /// The algorithm of this key.
+    /// The algorithm of this key: `Overlength` within `Asn1` where its parameters would have 2^32 bytes or more, `OutOfMemory`.
     fn algorithm_identifier(&self, alloc: Global) -> Result<AlgorithmIdentifierOwned>
         ensures { OwnedIdentifier (algorithm_of self.now) result };
 }
@@ -124,7 +126,7 @@ pub trait SignatureAlgorithmIdentifier {
 pub trait DynSignatureAlgorithmIdentifier {
     ghost signature_algorithm_of: { Self → Identifier };
 
-    /// The algorithm of this key's signatures.
+    /// The algorithm of this key's signatures: `Overlength` within `Asn1` where its parameters would have 2^32 bytes or more, `OutOfMemory`.
     fn signature_algorithm_identifier(&self, alloc: Global) -> Result<AlgorithmIdentifierOwned>
         ensures { OwnedIdentifier (signature_algorithm_of self.now) result };
 }
@@ -142,7 +144,7 @@ pub trait SignatureBitStringEncoding {
     // The one answer of each signature.
     ghost bits: { Self → Answer PlainBits DerError };
 
-    /// The bit string of the signature.
+    /// The bit string of the signature, or the type's own refusal, or `OutOfMemory`.
     fn to_bitstring(&self, alloc: Global) -> der_small::Result<BitString>
         ensures { GivesBits plain_bits (bits self.now) result };
 }
