@@ -1,13 +1,18 @@
 -- Where the parts of a private key cannot be read, there is none.
-use Rattle.std.proofs.Common.{◌≡◌, ℕ, ◌<◌, ◌^◌, List, ◌++◌, length, Option, Some, None, refl}
+use Rattle.std.proofs.Common.{◌≡◌, ℕ, ◌<◌, ◌^◌, List, ◌++◌, length, Option, Some, None, Result, refl}
+use Rattle.std.specs.Prelude.{OnErr}
 use Rattle.der_core.specs.Der.{IsTag, IsValue, encode}
 use Rattle.der_core.specs.Decode.{Front, NoFront, ReadsTagged, ReadsTagged-one_value}
 use Rattle.der_core.specs.SequenceLaws.{field_same, then_none, then_same}
 use Rattle.der_core.specs.Tags.{tag_129, tag_160}
+use Rattle.der_core.proofs.Tagged.{on_err_any}
+use Rattle.spki.specs.declared.algorithm.AlgorithmIdentifier.{AlgorithmIdentifier}
 use Rattle.pkcs8.specs.Extensions.{IsExtensions}
 use Rattle.pkcs8.specs.Version.{version_of}
 use Rattle.pkcs8.specs.ReadLaws.{one_version, version_value}
 use Rattle.pkcs8.specs.PrivateKey.{KeyParts, PartReads, ReadsVersion, AfterAttributes, AfterKey, PrivateKeyFields, attributes_tag, public_key_tag}
+use Rattle.pkcs8.specs.PrivateKeyInfo.{PrivateKeyContent, parts_of}
+use Rattle.pkcs8.specs.declared.private_key_info.PrivateKeyInfo.{PrivateKeyInfo}
 use Rattle.pkcs8.specs.declared.version.Version.{Version}
 use Rattle.pkcs8.specs.declared.version.Version.TheVariants.{V2}
 
@@ -72,3 +77,10 @@ no_end reads values s s1 s2 s3 n x y f f1 f2 none v c =
 
 pub tagged_value : {V : Type 0} (tag : ℕ) (H : List ℕ → V → Type 0) → IsTag tag → (b : List ℕ) (v : V) → ReadsTagged tag H b v → IsValue b
 tagged_value tag H t b v r = ReadsTagged-one_value tag H b v t r
+
+-- Where no parts are read, no private key is, and a refusal says so.
+pub refused : {P K B T X E : Type 0} (reads : PartReads (AlgorithmIdentifier P) K B T) (s : List ℕ) (r : Result X E)
+    → ((v : KeyParts (AlgorithmIdentifier P) K B T) → PrivateKeyFields reads s v → ⊥) → OnErr r ((v : PrivateKeyInfo P K B T) → PrivateKeyContent reads s v → ⊥)
+refused {P = P} {K = K} {B = B} {T = T} reads s r none =
+    let whole : (v : PrivateKeyInfo P K B T) → PrivateKeyContent reads s v → ⊥ = λ v content. none (parts_of v) content in
+    on_err_any r whole

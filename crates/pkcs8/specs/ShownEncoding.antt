@@ -12,10 +12,10 @@ ShowsFirst false kept bytes = (kept ≡ bytes) × (length bytes ≤ 128)
 
 -- It was told these bytes.
 abbrev pub ShowsBytes : ShownEncoding → List ℕ → Type 0
-ShowsBytes w bytes = ShowsFirst w.is_long w.kept bytes
+ShowsBytes w bytes = ShowsFirst w.is_long w.kept.items bytes
 
 abbrev pub shown_debug : ShownEncoding → Option (List ℕ)
-shown_debug w = if w.is_long then Some (codes "..") else bytes_debug w.kept
+shown_debug w = if w.is_long then Some (codes "..") else bytes_debug w.kept.items
 
 abbrev pub shown_bits_debug : ShownBits → Option (List ℕ)
 shown_bits_debug w = bits_debug (bits_content (plain_bits_ref w.bits))

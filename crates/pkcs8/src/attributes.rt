@@ -16,7 +16,7 @@ pub struct AttributesRef<'a> {
     ghost small: { length content.now < 2 ^ 32 },
 }
 
-/// The attributes of a private key, with bytes of their own.
+/// The attributes of a private key (RFC 5958, section 2), with bytes of their own.
 #[derive(Debug, Drop, PartialEq, Eq)]
 pub struct Attributes {
     content: Vec<u8>,
@@ -27,7 +27,7 @@ impl<'a> AttributesRef<'a> {
     ghost use Rattle.std.specs.Prelude.{◌≡◌, ◌≤◌, IfOk, IfErr, OnOk, MatchResult};
     ghost use Rattle.pkcs8.specs.Attributes.{attributes_bytes_ref, attributes_bytes};
 
-    /// Attributes of this content, which is what stands behind their tag and length: one encoding after another.
+    /// Attributes of this content, which is what stands behind their tag and length: one encoding after another. `Overlength` from 2^32 bytes on.
     pub fn new(content: &'a [u8]) -> Result<Self>
         ensures value { IfOk result (λ v. attributes_bytes_ref v ≡ content.now) }
         ensures fits { OnOk result (length content.now < 2 ^ 32) }
@@ -46,7 +46,7 @@ impl<'a> AttributesRef<'a> {
         self.content
     }
 
-    /// The same attributes with bytes of their own, for when the input doesn't live long enough.
+    /// The same attributes with bytes of their own, for when the input doesn't live long enough. `OutOfMemory` alone refuses it.
     pub fn ref_to_owned(&self, alloc: Global) -> Result<Attributes>
         ensures { MatchResult result (λ v. attributes_bytes v ≡ attributes_bytes_ref self.now) (λ e. e ≡ Error.OutOfMemory) }
     {

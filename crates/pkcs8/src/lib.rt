@@ -15,7 +15,6 @@
 mod attributes;
 mod error;
 mod extensions;
-mod kept;
 mod key_file;
 pub mod laws;
 mod private_key_info;

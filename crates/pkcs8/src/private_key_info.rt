@@ -23,7 +23,7 @@ use spki::AlgorithmIdentifier;
 use std::alloc::Global;
 use std::fmt;
 
-/// A private key and what it is a key of. Its debug form shows neither the key nor the attributes, and
+/// A private key and what it is a key of (RFC 5208, section 5, and RFC 5958, section 2). Its debug form shows neither the key nor the attributes, and
 /// of parameters whose encoding has more than 128 bytes `..` alone. `Debug` of the field `private_key`
 /// by itself shows the octets.
 #[derive(Clone, Drop, PartialEq, Eq)]
@@ -109,18 +109,10 @@ impl<
 
     fn decode_value(cursor: &mut Cursor<'a>) -> der_small::Result<Self> {
         let mut at = Cursor::new(cursor.rest());
-        let Ok(version) = Version::decode(&mut at) else {
-            return Err(der_small::Error::Malformed);
-        };
-        let Ok(algorithm) = AlgorithmIdentifier::<Params>::decode(&mut at) else {
-            return Err(der_small::Error::Malformed);
-        };
-        let Ok(private_key) = Key::decode(&mut at) else {
-            return Err(der_small::Error::Malformed);
-        };
-        let Ok(tail) = after_key::<Attrs, PubKey>(version, at.rest()) else {
-            return Err(der_small::Error::Malformed);
-        };
+        let version = Version::decode(&mut at)?;
+        let algorithm = AlgorithmIdentifier::<Params>::decode(&mut at)?;
+        let private_key = Key::decode(&mut at)?;
+        let tail = after_key::<Attrs, PubKey>(version, at.rest())?;
         cursor.take_rest();
         Ok(PrivateKeyInfo {
             algorithm,
@@ -192,7 +184,7 @@ impl<
     ghost use Rattle.der_small.specs.SecretDocument.{secret_bytes};
     ghost use Rattle.pkcs8.specs.Answers.{IsOverlengthOrMemory};
 
-    /// The document in which the key is stored.
+    /// The document in which the key is stored: `Overlength` within `Asn1` where it would have 2^32 bytes or more, `OutOfMemory`.
     pub fn to_secret_document(&self, alloc: Global) -> Result<SecretDocument>
         ensures value { IfOk result (λ document. secret_bytes document ≡ ⟦<PrivateKeyInfo<Params, Key, PubKey, Attrs> as Encode>⟧.encoding self.now) }
         ensures fits { OnOk result (length (⟦<PrivateKeyInfo<Params, Key, PubKey, Attrs> as Encode>⟧.encoding self.now) < 2 ^ 32) }
@@ -203,7 +195,7 @@ impl<
 }
 
 impl<'a> PrivateKeyInfo<AnyRef<'a>, OctetStringRef<'a>, BitStringRef<'a>, AttributesRef<'a>> {
-    /// The same key with bytes of its own, for when the input doesn't live long enough.
+    /// The same key with bytes of its own, for when the input doesn't live long enough. `OutOfMemory` alone refuses it.
     pub fn ref_to_owned(&self, alloc: Global) -> Result<PrivateKeyInfoOwned>
         ensures { MatchResult result (λ v. plain_private_key v ≡ plain_private_key_ref self.now) (λ e. e ≡ Error.OutOfMemory) }
     {
@@ -225,7 +217,8 @@ impl<'a> PrivateKeyInfo<AnyRef<'a>, OctetStringRef<'a>, BitStringRef<'a>, Attrib
 }
 
 impl PrivateKeyInfo<Any, OctetString, BitString, Attributes> {
-    /// Reads one private key and copies it.
+    /// Reads one private key and copies it: `Malformed` where the bytes begin with none, `TrailingData` where they have more behind it,
+    /// `OutOfMemory`.
     pub fn from_der(alloc: Global, bytes: &[u8]) -> der_small::Result<Self>
         ensures { FromDerOwned plain_private_key ReadsPrivateKey bytes.now result }
     {

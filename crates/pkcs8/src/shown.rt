@@ -1,18 +1,28 @@
 //! What `Debug` shows of a private key beside its version and its algorithm's identifier.
-ghost use Rattle.std.specs.Prelude.{◌≡◌};
+ghost use Rattle.std.specs.Prelude.{◌≡◌, ◌≤◌, ◌<◌, ◌+◌, ◌++◌, length};
+ghost use Rattle.std.specs.Bool.{OnTrue, OnFalse};
 ghost use Rattle.std.specs.Fmt.{debug_option};
 ghost use Rattle.pkcs8.specs.Shown.{bits_debug, encoding_debug};
 
 use crate::BitStringLike;
-use crate::kept::Kept;
+use arrayvec::ArrayVec;
 use der_small::{BitStringRef, Encode, Result, Writer};
 use std::fmt;
 
 /// What is shown of an encoding: its bytes, or that it has more than 128.
 #[derive(Drop)]
 pub(crate) struct ShownEncoding {
-    kept: Kept,
+    kept: ArrayVec<u8, 128>,
     is_long: bool,
+}
+
+/// Adds the bytes, where there is room.
+fn keep(kept: &mut ArrayVec<u8, 128>, bytes: &[u8]) -> bool
+    ensures kept { OnTrue result (kept.new.items ≡ kept.old.items ++ bytes.now) }
+    ensures room { OnTrue result (length kept.new.items ≤ 128) }
+    ensures full { OnFalse result (128 < length kept.old.items + length bytes.now) }
+{
+    kept.try_extend_from_slice(bytes).is_ok()
 }
 
 impl Writer for ShownEncoding {
@@ -26,7 +36,7 @@ impl Writer for ShownEncoding {
         if self.is_long {
             return Ok(());
         }
-        if !self.kept.push(slice) {
+        if !keep(&mut self.kept, slice) {
             self.is_long = true;
         }
         Ok(())
@@ -42,7 +52,7 @@ impl fmt::Debug for ShownEncoding {
         if self.is_long {
             return write!(f, "..");
         }
-        let bytes = self.kept.as_bytes();
+        let bytes = self.kept.as_slice();
         write!(f, "{bytes:?}")
     }
 }
@@ -54,7 +64,7 @@ fn shown_encoding<T: Encode>(value: &T) -> ShownEncoding
     ensures { shown_debug result ≡ encoding_debug (T.encoding value.now) }
 {
     let mut shown = ShownEncoding {
-        kept: Kept::new(),
+        kept: ArrayVec::new(),
         is_long: false,
     };
     match value.encode(&mut shown) {

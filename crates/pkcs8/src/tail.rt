@@ -37,9 +37,7 @@ fn after_attributes<'a, PubKey: DecodeValue<'a>>(
             let Some((content, rest)) = field_at(Tag::from_valid(PUBLIC_KEY), bytes) else {
                 return Err(Error::Malformed);
             };
-            let Ok(key) = PubKey::decode_value(&mut Cursor::new(content)) else {
-                return Err(Error::Malformed);
-            };
+            let key = PubKey::decode_value(&mut Cursor::new(content))?;
             if !are_extensions(rest) {
                 return Err(Error::Malformed);
             }
@@ -67,20 +65,14 @@ pub(crate) fn after_key<'a, Attrs: DecodeValue<'a>, PubKey: DecodeValue<'a>>(
         → ⊥) }
 {
     let Some((content, rest)) = field_at(Tag::from_valid(ATTRIBUTES), bytes) else {
-        let Ok(public_key) = after_attributes(version, bytes) else {
-            return Err(Error::Malformed);
-        };
+        let public_key = after_attributes(version, bytes)?;
         return Ok(Tail {
             attributes: None,
             public_key,
         });
     };
-    let Ok(attributes) = Attrs::decode_value(&mut Cursor::new(content)) else {
-        return Err(Error::Malformed);
-    };
-    let Ok(public_key) = after_attributes(version, rest) else {
-        return Err(Error::Malformed);
-    };
+    let attributes = Attrs::decode_value(&mut Cursor::new(content))?;
+    let public_key = after_attributes(version, rest)?;
     Ok(Tail {
         attributes: Some(attributes),
         public_key,

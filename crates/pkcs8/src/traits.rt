@@ -54,7 +54,7 @@ pub trait DecodePrivateKey: Sized + Drop {
     // The one answer to each list of bytes.
     ghost HasAnswer: { List ℕ → Answer Plain Refusal → Type 0 };
 
-    /// Reads the document of a key of this type.
+    /// Reads the document of a key of this type, and refuses as the type's `HasAnswer` says, or as `OutOfMemory`.
     fn from_pkcs8_der(alloc: Global, bytes: &[u8]) -> Result<Self>
         ensures { GivesValue plain HasAnswer bytes.now result };
 
@@ -62,7 +62,8 @@ pub trait DecodePrivateKey: Sized + Drop {
 
     ghost no_file: { (bytes : List ℕ) (e : Refusal) → HasAnswer bytes (Err e) → IsOfAFile e → ⊥ };
 
-    /// Reads a key from a file, which is read as a document first. A file of more than 16,777,216 bytes is not read.
+    /// Reads a key from a file, which is read as a document first. Within `Asn1` it refuses as `SecretDocument::read_der_file` does, with
+    /// `FileTooLong` above 16,777,216 bytes, and behind that as `from_pkcs8_der` does.
     final fn read_pkcs8_der_file<D: Disk>(alloc: Global, disk: &mut D, path: &str) -> Result<Self>
         ensures read { ForSome (D.files disk.old) (λ known. ReadsKeyFile kind_of plain HasAnswer (file_at path.now known) result) }
         ensures kept { D.files disk.new ≡ D.files disk.old }
@@ -77,7 +78,7 @@ pub trait EncodePrivateKey {
     // The one answer of each value: the bytes of its document, or why it has none.
     ghost document: { Self → Answer (List ℕ) Refusal };
 
-    /// The document of the key.
+    /// The document of the key, or the type's own refusal, or `OutOfMemory`.
     fn to_pkcs8_der(&self, alloc: Global) -> Result<SecretDocument>
         ensures { GivesBytes secret_bytes (document self.now) result };
 
@@ -86,7 +87,8 @@ pub trait EncodePrivateKey {
     /// Writes the document of the key to a file, which is not protected: that is the caller's to do.
     /// `StdDisk` makes a new file that all may read, as far as the mask of the process lets them, and
     /// leaves an old file its permissions. It empties an old file before it writes: after a fault the
-    /// file may hold a first part of the document, or nothing, and the old key is gone.
+    /// file may hold a first part of the document, or nothing, and the old key is gone. It refuses as
+    /// `to_pkcs8_der` does, and then nothing is written, or as `FileFault` within `Asn1`.
     final fn write_pkcs8_der_file<D: Disk>(
         &self,
         alloc: Global,
