@@ -339,10 +339,8 @@ def told(data):
 def in_lines(document, width, endings=(b"\n",), draw=None):
     text = base64.b64encode(document)
     pieces = [text[at : at + width] for at in range(0, len(text), width)]
-    out = pieces[0] if pieces else b""
-    for piece in pieces[1:]:
-        out += (draw.choice(endings) if draw else endings[0]) + piece
-    return out
+    chosen = [draw.choice(endings) if draw else endings[0] for _ in pieces[1:]] + [b""]
+    return b"".join(piece + ending for piece, ending in zip(pieces, chosen))
 
 
 def bytes_of_text(text, width):

@@ -229,5 +229,7 @@ def random_text(draw, width):
     elif kind == 16:
         text[at:at] = draw.choice([b"\n", b"\r", b"=", b"A", b"\r\n"])
     elif kind == 17:
+        del text[at:]
+    elif kind == 18:
         text += draw.choice([b"\n", b"=", b"A", b"\r"])
     return bytes(text)

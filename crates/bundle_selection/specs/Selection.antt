@@ -1,9 +1,9 @@
 -- What `select` has done, where the source and the sink tell their bytes.
-use Rattle.std.specs.Prelude.{◌≡◌, ℕ, List, Option, IfSome, Result, Ok, Err}
+use Rattle.std.specs.Prelude.{◌≡◌, ◌≢◌, ◌<◌, ◌↔◌, ℕ, List, Option, IfSome, Result, Ok, Err}
 use Rattle.std.specs.Io.KnownBytes.{Appends, IsAtEnd}
 use Rattle.identity_io.specs.Causes.{Rose}
 use Rattle.identity_io.specs.Whole.{AppendsPrefix}
-use Rattle.command_line.specs.Outcome.{Streams}
+use Rattle.command_line.specs.Outcome.{Calm, HasSize, IsCalm, IsUntouched, Streams, Within}
 use Rattle.command_line.specs.declared.status.Status.{Status}
 use Rattle.command_line.specs.declared.status.Status.TheVariants.{Done, Refused, Usage, SourceFailed, SinkFailed, OutOfMemory, TooLong, BadScript}
 use Rattle.bundle_document.specs.Document.{Document, key_set_text}
@@ -39,3 +39,12 @@ Selects before now SinkFailed = Rose before.write_faults now.write_faults × Par
 Selects before now OutOfMemory = Unit {0}
 Selects before now TooLong = Unit {0}
 Selects before now BadScript = ⊥
+
+-- so many words were run: there are some and nothing was begun, or there are none and the document was selected from
+pub record HasRun (limit words : ℕ) (before now : Streams) (status : Status) (same_input same_output : Type 0) : Type 0 where
+  pub usage : status ≡ Usage ↔ (0 < words)
+  pub not_begun : status ≡ Usage → same_input × same_output
+  pub selects : status ≢ Usage → Selects before now status
+  pub size : HasSize limit before.left status
+  pub untouched : IsUntouched status same_output
+  pub calm : words ≡ 0 → Calm before.read_faults now.read_faults → Calm before.write_faults now.write_faults → Within limit before.left → IsCalm status

@@ -13,5 +13,5 @@ mod program;
 mod refusal;
 mod selecting;
 
-pub use program::run_program;
+pub use program::{run_over, run_program};
 pub use selecting::select;

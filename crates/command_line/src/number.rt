@@ -3,7 +3,8 @@ ghost use Rattle.std.specs.Prelude.{◌≡◌, ◌≢◌, ◌<◌, ◌^◌, IfNo
 
 use itoa::Buffer;
 
-/// The number that the text writes in decimal digits, without a sign or a leading zero.
+/// The number that the text writes in decimal digits, without a sign or a leading zero. Any other text, and one of 2^64
+/// or more, gives none.
 pub fn read_number(text: &str) -> Option<u64>
     ensures some { IfSome result (λ n. (text.now ≡ decimal n) × (n < 2 ^ 64)) }
     ensures none { IfNone result ((n : ℕ) → n < 2 ^ 64 → text.now ≢ decimal n) }

@@ -9,7 +9,7 @@ use std::env::Args;
 use std::io::ErrorKind;
 use std::{env, io};
 
-/// The arguments of a process without the first, which is the program's name.
+/// The arguments of a process without the first, which is the program's name. It errs for want of memory alone.
 pub fn words_behind(alloc: Global, args: Args) -> Result<Vec<String>, AllocError>
     ensures { IfOk result (λ words. words.items ≡ drop 1 (into_iter_items args)) }
 {
@@ -22,7 +22,8 @@ pub fn words_behind(alloc: Global, args: Args) -> Result<Vec<String>, AllocError
     Ok(words)
 }
 
-/// The words behind the program's name. One that isn't UTF-8 is an error, which [`unread`] gives its status.
+/// The words behind the program's name. One that isn't UTF-8 is an error, as is want of memory; [`unread`] gives each its
+/// status.
 pub fn words_of(rt: &HostRuntime) -> io::Result<Vec<String>> {
     Ok(words_behind(rt.alloc(), env::args(rt)?)?)
 }

@@ -221,7 +221,8 @@ fn manifest_error(error: JsonError) -> ManifestError
     }
 }
 
-/// The JSON value of a manifest's text.
+/// The JSON value of a manifest's text. It errs with `Syntax` or `Number` where the text breaks that rule, and for want of
+/// memory.
 pub fn read_value(alloc: Global, text: &[u8]) -> Result<Value, ReadError>
     ensures ok { IfOk result (λ v. json_check text.now ≡ Ok (view v)) }
     ensures err { IfErr result (IsRefusal (json_check text.now)) }
@@ -234,7 +235,8 @@ pub fn read_value(alloc: Global, text: &[u8]) -> Result<Value, ReadError>
 }
 
 impl<'v> Manifest<'v> {
-    /// The manifest that the value is, which `read_value` gave of this text. Values don't show a name that stands twice in the outermost object; the text does.
+    /// The manifest that the value is, which `read_value` gave of this text. Values don't show a name that stands twice in
+    /// the outermost object; the text does. It errs with `Shape` where the value is no manifest, and for want of memory.
     pub fn of(alloc: Global, text: &[u8], value: &'v Value) -> Result<Manifest<'v>, ReadError>
         ensures ok { IfOk result (λ m. shape_check text.now (view value.now) ≡ Ok (manifest_named m)) }
         ensures err { IfErr result (IsRefusal (shape_check text.now (view value.now))) }

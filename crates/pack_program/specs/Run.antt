@@ -1,10 +1,11 @@
 -- What `run` has done, where the disk and the sink tell their bytes.
-use Rattle.std.specs.Prelude.{◌≡◌, ◌⊎◌, ℕ, List, Option, Ok, Err}
+use Rattle.std.specs.Prelude.{◌≡◌, ◌≢◌, ◌⊎◌, ◌↔◌, ℕ, List, Option, Ok, Err}
 use Rattle.std.specs.Io.KnownBytes.{Appends}
 use Rattle.std.specs.Option.{ForSome}
 use Rattle.base64ct.specs.declared.line_ending.LineEnding.TheVariants.{LF}
 use Rattle.identity_io.specs.Causes.{Rose}
 use Rattle.identity_io.specs.Whole.{AppendsPrefix}
+use Rattle.command_line.specs.Outcome.{Calm, IsCalm, IsUntouched}
 use Rattle.command_line.specs.declared.status.Status.{Status}
 use Rattle.command_line.specs.declared.status.Status.TheVariants.{Done, Refused, Usage, SourceFailed, SinkFailed, OutOfMemory, TooLong, BadScript}
 use Rattle.pack_update.specs.Packed.{Files, Packed}
@@ -13,7 +14,7 @@ use Rattle.pack_update.specs.declared.error.PackError.{PackError}
 use Rattle.pack_update.specs.declared.error.PackError.TheVariants.{Fault}
 use Rattle.identity_update.specs.Parts.{UpdateParts}
 use Rattle.pack_program.specs.Refusal.{IsRule, pack_line}
-use Rattle.pack_program.specs.Words.{Order}
+use Rattle.pack_program.specs.Words.{IsCommand, IsUsage, Order}
 
 -- a disk and a sink: the files, what was written, and how many faults came of each
 pub record Devices : Type 0 where
@@ -55,3 +56,12 @@ Runs order before now SinkFailed = Rose before.write_faults now.write_faults × 
 Runs order before now OutOfMemory = Unit {0}
 Runs order before now TooLong = ⊥
 Runs order before now BadScript = ⊥
+
+-- the words were run: they are no command and nothing was begun, or their order was done, the files as they were
+pub record HasRun (words : List (List ℕ)) (before now : Devices) (status : Status) (same_disk same_output : Type 0) : Type 0 where
+  pub usage : status ≡ Usage ↔ IsUsage words
+  pub not_begun : status ≡ Usage → same_disk × same_output
+  pub runs : status ≢ Usage → (order : Order) × IsCommand words order × Runs order before now status
+  pub untouched : IsUntouched status same_output
+  pub calm : (order : Order) → IsCommand words order → Calm before.read_faults now.read_faults → Calm before.write_faults now.write_faults → IsCalm status
+  pub kept : now.files ≡ before.files

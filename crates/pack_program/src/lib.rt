@@ -14,6 +14,6 @@ mod refusal;
 mod running;
 mod words;
 
-pub use program::run_program;
+pub use program::{run_over, run_program};
 pub use running::run;
 pub use words::{Command, read_words};

@@ -124,8 +124,10 @@ pub(crate) fn pack_update<D: Disk>(
 
 /// The text of the update that the manifest at this path is packed to, in lines of `width` characters,
 /// with the ending between two lines and none after the last. The files are read in the order of the
-/// manifest, and a key file as a document first. It answers the first rule that is broken, where the
-/// manifest and its files break one.
+/// manifest, and a key file as a document first. It errs with the first rule that the manifest and its
+/// files break, with `Fault` where the disk fails before one is found broken, and for want of memory.
+/// Which rule it is, is that of the files as they were read: of a disk that doesn't tell its files no
+/// clause names it.
 pub fn pack<D: Disk>(
     alloc: Global,
     disk: &mut D,

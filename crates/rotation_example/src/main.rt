@@ -34,6 +34,7 @@ fn watch(mut reader: IdentityReader) -> bool {
     forward
 }
 
+// cut: rotation
 fn main(rt: HostRuntime) -> Result<()> {
     let (mut source, readers) = IdentitySource::open(&rt, rt.alloc(), 0, 4)?;
     let (applied, watched) = thread::join(
@@ -43,6 +44,7 @@ fn main(rt: HostRuntime) -> Result<()> {
     );
     let latest = source.latest().try_clone();
     source.close(&rt);
+    // end
     let latest = latest?;
     println!(rt;
         "{applied} updates applied, the last state is of revision {}",

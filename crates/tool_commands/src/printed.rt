@@ -22,7 +22,8 @@ fn push_byte(out: &mut Vec<u8>, byte: u8) -> Result<(), AllocError>
     }
 }
 
-/// Appends a text of which no byte is known: visible ASCII characters but `%` as they are, every other byte as `%` and two hexadecimal digits.
+/// Appends a text of which no byte is known: visible ASCII characters but `%` as they are, every other byte as `%` and
+/// two hexadecimal digits. It errs for want of memory alone.
 pub fn push_printed(out: &mut Vec<u8>, text: &[u8]) -> Result<(), AllocError>
     ensures { OnOk result (out.new.items ≡ out.old.items ++ printed text.now) }
 {

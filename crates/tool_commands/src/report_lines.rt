@@ -58,7 +58,8 @@ fn push_key_ids(out: &mut Vec<u8>, bundle: &JwtBundle) -> Result<(), AllocError>
     Ok(())
 }
 
-/// Appends what a line says of a trust domain: its name, how many keys it has, and their key IDs.
+/// Appends what a line says of a trust domain: its name, how many keys it has, and their key IDs. It errs for want of
+/// memory alone.
 pub fn push_bundle_words(
     out: &mut Vec<u8>,
     alloc: Global,
@@ -96,7 +97,8 @@ fn push_reason(out: &mut Vec<u8>, reason: Option<&str>) -> Result<(), AllocError
     }
 }
 
-/// The report of a state of this revision: why its identities were withdrawn, its entries, and the keys of its trust domains.
+/// The report of a state of this revision: why its identities were withdrawn, its entries, and the keys of its trust
+/// domains. It errs for want of memory alone.
 pub fn report_text(
     alloc: Global,
     revision: u64,

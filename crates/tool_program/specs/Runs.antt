@@ -1,15 +1,16 @@
 -- What each command has done, by its status.
-use Rattle.std.specs.Prelude.{◌≡◌, ◌⊎◌, ℕ, List, Option}
+use Rattle.std.specs.Prelude.{◌≡◌, ◌≢◌, ◌⊎◌, ◌↔◌, ℕ, List, Option}
 use Rattle.tool_commands.specs.Made.{Makes}
 use Rattle.command_line.specs.Outcome.{Calm, HasSize, IsCalm, IsUntouched, Streams, Within}
 use Rattle.tool_commands.specs.Outcome.{Shows}
 use Rattle.command_line.specs.declared.status.Status.{Status}
-use Rattle.command_line.specs.declared.status.Status.TheVariants.{Done, OutOfMemory}
+use Rattle.command_line.specs.declared.status.Status.TheVariants.{Done, Usage, OutOfMemory}
 use Rattle.tool_script.specs.Session.{EndsWell, Serves}
 use Rattle.tool_watch.specs.Watching.{Watches}
 use Rattle.tool_watch.specs.Watching as watching
 use Rattle.tool_program.specs.declared.words.Command.{Command}
 use Rattle.tool_program.specs.declared.words.Command.TheVariants.{Show, Serve, Watch, Make}
+use Rattle.tool_program.specs.Words.{IsCommand, IsUsage}
 
 -- the limit is the most bytes of an input that is read whole
 abbrev pub Runs : ℕ → Command → Streams → Streams → Status → Type 0
@@ -52,3 +53,9 @@ pub record Ran (limit : ℕ) (command : Command) (before now : Streams) (status 
   pub input : LeavesInput command same_input
   pub output : LeavesOutput command status same_output
   pub calm : Calm before.read_faults now.read_faults → Calm before.write_faults now.write_faults → IsReady limit command before.left → EndsCalmly command status
+
+-- the words were run: they are no command and nothing was begun, or their command came to its end
+pub record HasRun (limit : ℕ) (words : List (List ℕ)) (before now : Streams) (status : Status) (same_input same_output : Type 0) : Type 0 where
+  pub usage : status ≡ Usage ↔ IsUsage words
+  pub not_begun : status ≡ Usage → same_input × same_output
+  pub ran : status ≢ Usage → (command : Command) × IsCommand words command × Ran limit command before now status same_input same_output

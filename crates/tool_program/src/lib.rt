@@ -13,5 +13,5 @@ mod program;
 mod words;
 
 pub use commands::run;
-pub use program::run_program;
+pub use program::{run_over, run_program};
 pub use words::{Command, read_words};

@@ -66,7 +66,7 @@ impl Ahead {
         self.bytes.truncate(kept);
     }
 
-    /// Reads another piece. `false` is the end of the source.
+    /// Reads another piece. `false` is the end of the source. It errs where the source fails, and for want of memory.
     pub fn fill<S: Source>(&mut self, source: &mut S) -> Result<bool, Stop>
         ensures pending { OnOk result (Keeps (prepend_known self.old (S.left source.old)) (prepend_known self.new (S.left source.new))) }
         ensures grows { OnOk result ((more : List ℕ) × (self.new ≡ self.old ++ more)) }

@@ -87,7 +87,7 @@ fn form_of(alloc: Global, line: &[u8]) -> Result<Option<Form>, AllocError>
     }
 }
 
-/// What the line says.
+/// What the line says. It errs for want of memory alone.
 pub fn read_line(alloc: Global, line: &[u8]) -> Result<Line, AllocError>
     ensures { IfOk result (λ says. Says line.now says) }
 {

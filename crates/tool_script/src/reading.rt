@@ -149,7 +149,7 @@ fn take_request<S: Source>(
 }
 
 /// The next request of a script, or how the script ends, behind so many requests and where the next update may have so
-/// many bytes. After `Failed` no whole request stands ahead.
+/// many bytes. It errs where the source fails, and for want of memory. After `Failed` no whole request stands ahead.
 pub fn next_request<S: Source>(
     alloc: Global,
     ahead: &mut Ahead,

@@ -10,7 +10,7 @@ use std::alloc::{AllocError, Global};
 use std::sync::Arc;
 use tool_commands::{push_bundle_words, push_printed};
 
-/// The reply to an update that was applied as this revision.
+/// The reply to an update that was applied as this revision. It errs for want of memory alone.
 pub fn accepted_text(alloc: Global, revision: u64) -> Result<Vec<u8>, AllocError>
     ensures { IfOk result (λ reply. reply.items ≡ accepted_reply revision) }
 {
@@ -41,7 +41,7 @@ fn push_standing(
     }
 }
 
-/// The reply to a query for the default identity.
+/// The reply to a query for the default identity. It errs for want of memory alone.
 pub fn svid_text(alloc: Global, state: &Snapshot) -> Result<Vec<u8>, AllocError>
     ensures { IfOk result (λ reply. reply.items ≡ svid_reply state.now) }
 {
@@ -69,7 +69,7 @@ fn push_keys(
     }
 }
 
-/// The reply to a query for the keys of a trust domain.
+/// The reply to a query for the keys of a trust domain. It errs for want of memory alone.
 pub fn bundle_text(
     alloc: Global,
     domain: &TrustDomain,

@@ -164,7 +164,9 @@ fn answer<R: Threads + Wait + Sync, G: Gate + Sync>(
     text
 }
 
-/// Answers a script, read to its end first, by workers that look at one source while its updates are applied. It may wait for its own threads.
+/// Answers a script, read to its end first, by workers that look at one source while its updates are applied. It may wait
+/// for its own threads. Nothing is written before all answers are made: where the source fails, the script is none or is
+/// too long, or memory is wanted, a sink that tells its bytes has those of before.
 pub fn watch<R: Threads + Wait + Sync, S: Source, K: Sink, G: Gate + Sync>(
     rt: &R,
     alloc: Global,
