@@ -10,3 +10,4 @@ pub mod PartsLemmas
 pub mod DigitsLemmas
 pub mod TurnedLemmas
 pub mod EncodePartsLemmas
+pub mod Forms

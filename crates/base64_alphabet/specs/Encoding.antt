@@ -1,6 +1,7 @@
 -- The encoding of a list of bytes (RFC 4648 section 4).
-use Rattle.std.specs.Prelude.{ℕ, ◌-◌, ◌%◌, Bool, if◌then◌else◌, List, [], ◌∷◌, ◌++◌, length, take, replicate}
+use Rattle.std.specs.Prelude.{ℕ, ◌-◌, ◌%◌, if◌then◌else◌, List, [], ◌∷◌, ◌++◌, length, take, replicate}
 use Rattle.base64_alphabet.specs.Group.{End, characters_of, bytes_of}
+use Rattle.base64_alphabet.specs.Form.{Form}
 
 -- the characters of a list of bytes: a last group of one or two bytes is filled with zero bits, and gives
 -- the first two or three characters
@@ -15,8 +16,8 @@ abbrev pub padding_len : ℕ → ℕ
 padding_len n = (3 - n % 3) % 3
 
 -- the encoding of a list of bytes
-abbrev pub encoding_of : End → List ℕ → Bool → List ℕ → List ℕ
-encoding_of end table padded b = characters end table b ++ (if padded then replicate (padding_len (length b)) 61 else [])
+abbrev pub encoding_of : Form → List ℕ → List ℕ
+encoding_of form b = characters form.end form.table b ++ (if form.padded then replicate (padding_len (length b)) 61 else [])
 
 -- the bytes that whole blocks of four characters stand for
 unfoldable pub bytes_of_blocks : End → List ℕ → List ℕ → List ℕ

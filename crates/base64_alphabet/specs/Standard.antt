@@ -1,6 +1,8 @@
 -- The standard alphabet (RFC 4648 section 4, table 1), and its passes.
-use Rattle.std.specs.Prelude.{◌≡◌, ℕ, List, [], ◌∷◌, codes, pos, negsuc, true, refl}
+use Rattle.std.specs.Prelude.{◌≡◌, ℕ, List, [], ◌∷◌, codes, pos, negsuc, true, false, refl}
 use Rattle.base64_alphabet.specs.Table.{holds_below}
+use Rattle.base64_alphabet.specs.Group.{High}
+use Rattle.base64_alphabet.specs.Form.{Form}
 use Rattle.base64_alphabet.specs.Passes.{decodes, encodes}
 use Rattle.base64_alphabet.specs.declared.alphabet.DecodeStep.{DecodeStep}
 use Rattle.base64_alphabet.specs.declared.alphabet.DecodeStep.TheVariants.{Range, Eq}
@@ -10,6 +12,13 @@ use Rattle.base64_alphabet.specs.declared.alphabet.EncodeStep.TheVariants.{Diff}
 -- the characters for 0 to 63
 abbrev pub standard : List ℕ
 standard = codes "ABCDEFGHIJKLMNOPQRSTUVWXYZabcdefghijklmnopqrstuvwxyz0123456789+/"
+
+-- its texts with padding, and without
+abbrev pub standard_padded : Form
+standard_padded = record { end = High; table = standard; padded = true }
+
+abbrev pub standard_unpadded : Form
+standard_unpadded = record { end = High; table = standard; padded = false }
 
 -- the passes of `decode_6bits`
 abbrev pub standard_decoder : List DecodeStep

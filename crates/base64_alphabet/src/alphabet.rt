@@ -5,7 +5,8 @@ ghost use Rattle.std.specs.Prelude.{◌≡◌, ℕ, ◌<◌, ◌≤◌, ◌+◌,
 ghost use Rattle.std.specs.Prelude.{if◌then◌else◌};
 ghost use Rattle.base64_alphabet.specs.Table.{place_of, is_table, all_in, IsPlace};
 ghost use Rattle.base64_alphabet.specs.Passes.{decodes, value_fits, added_by, common_sign, encodes, turned_by, turned_fits};
-ghost use Rattle.base64_alphabet.specs.Group.{End, number, bytes_of_places, digits_of_number, bytes_of, answer_of, sextet, characters_of};
+ghost use Rattle.base64_alphabet.specs.Form.{Form};
+ghost use Rattle.base64_alphabet.specs.Group.{number, bytes_of_places, digits_of_number, bytes_of, answer_of, sextet, characters_of};
 
 pub mod standard;
 
@@ -22,11 +23,8 @@ pub trait Alphabet: 'static + Copy + Debug + Eq + Sized {
     ghost use Rattle.base64_alphabet.specs.declared.alphabet.DecodeStep.{DecodeStep};
     ghost use Rattle.base64_alphabet.specs.declared.alphabet.EncodeStep.{EncodeStep};
 
-    /// The characters for 0 to 63, in order.
-    ghost table: { List ℕ };
-
-    /// The end from which a group is read.
-    ghost end: { End };
+    /// The characters for 0 to 63 in order, the end from which a group is read, and `PADDED`.
+    ghost form: { Form };
 
     ghost BASE: { ℕ };
 
@@ -64,9 +62,9 @@ pub trait Alphabet: 'static + Copy + Debug + Eq + Sized {
     fn decode_3bytes(src: &[u8], dst: &mut [u8]) -> i16
         requires four { length src.now ≡ 4 }
         requires room { 3 ≤ length dst.old }
-        ensures answer { result ≡ (if all_in table src.now then pos 0 else pos 1) }
-        ensures written { all_in table src.now ≡ true →
-            dst.new ≡ bytes_of end table (slice_index src.now 0) (slice_index src.now 1)
+        ensures answer { result ≡ (if all_in form.table src.now then pos 0 else pos 1) }
+        ensures written { all_in form.table src.now ≡ true →
+            dst.new ≡ bytes_of form.end form.table (slice_index src.now 0) (slice_index src.now 1)
             (slice_index src.now 2) (slice_index src.now 3) ++ drop 3 dst.old }
         ensures rest { drop 3 dst.new ≡ drop 3 dst.old }
     {
@@ -79,7 +77,7 @@ pub trait Alphabet: 'static + Copy + Debug + Eq + Sized {
 
     /// Converts a character to its place in the table, or to -1.
     fn decode_6bits(src: u8) -> i16
-        ensures place { result ≡ place_of table src }
+        ensures place { result ≡ place_of form.table src }
         ensures range { IsPlace result }
     {
         let mut sum: i16 = -1;
@@ -93,7 +91,7 @@ pub trait Alphabet: 'static + Copy + Debug + Eq + Sized {
     fn encode_3bytes(src: &[u8], dst: &mut [u8])
         requires three { length src.now ≡ 3 }
         requires room { 4 ≤ length dst.old }
-        ensures { dst.new ≡ characters_of end table (slice_index src.now 0) (slice_index src.now 1)
+        ensures { dst.new ≡ characters_of form.end form.table (slice_index src.now 0) (slice_index src.now 1)
             (slice_index src.now 2) ++ drop 4 dst.old }
     {
         let digits = Self::split_3bytes(src[0], src[1], src[2]);
@@ -107,7 +105,7 @@ pub trait Alphabet: 'static + Copy + Debug + Eq + Sized {
     fn encode_6bits(src: i16) -> u8
         requires low { pos 0 ≤ℤ src }
         requires high { src ≤ℤ pos 63 }
-        ensures { result ≡ slice_index table (unsigned_abs src) }
+        ensures { result ≡ slice_index form.table (unsigned_abs src) }
     {
         let mut sum: i16 = src + Self::BASE as i16;
         for step in Self::encode_passes() {
@@ -126,18 +124,18 @@ pub trait Alphabet: 'static + Copy + Debug + Eq + Sized {
         requires room { 3 ≤ length dst.old }
         ensures answer { result ≡ answer_of c0 c1 c2 c3 }
         ensures written { result ≡ pos 0 →
-            dst.new ≡ bytes_of_places end (sextet c0) (sextet c1) (sextet c2) (sextet c3)
+            dst.new ≡ bytes_of_places form.end (sextet c0) (sextet c1) (sextet c2) (sextet c3)
             ++ drop 3 dst.old }
         ensures rest { drop 3 dst.new ≡ drop 3 dst.old };
 
     /// Splits a group of three bytes into four six-bit numbers. An implementation calls `split_high` or
     /// `split_low`.
     fn split_3bytes(a: u8, b: u8, c: u8) -> [i16; 4]
-        ensures { result ≡ map pos (digits_of_number end (number end a b c)) };
+        ensures { result ≡ map pos (digits_of_number form.end (number form.end a b c)) };
 
     /// `decode_6bits`, counted.
     fn decode_6bits_counted<L: Ledger>(src: u8, steps: &mut Steps<L>) -> i16
-        ensures place { result ≡ place_of table src }
+        ensures place { result ≡ place_of form.table src }
         ensures range { IsPlace result }
         ensures steps { steps.new ≡ steps.old + 1 }
     {
@@ -149,7 +147,7 @@ pub trait Alphabet: 'static + Copy + Debug + Eq + Sized {
     fn encode_6bits_counted<L: Ledger>(src: i16, steps: &mut Steps<L>) -> u8
         requires low { pos 0 ≤ℤ src }
         requires high { src ≤ℤ pos 63 }
-        ensures character { result ≡ slice_index table (unsigned_abs src) }
+        ensures character { result ≡ slice_index form.table (unsigned_abs src) }
         ensures steps { steps.new ≡ steps.old + 1 }
     {
         steps.add(1);
@@ -160,9 +158,9 @@ pub trait Alphabet: 'static + Copy + Debug + Eq + Sized {
     fn decode_3bytes_counted<L: Ledger>(src: &[u8], dst: &mut [u8], steps: &mut Steps<L>) -> i16
         requires four { length src.now ≡ 4 }
         requires room { 3 ≤ length dst.old }
-        ensures answer { result ≡ (if all_in table src.now then pos 0 else pos 1) }
-        ensures written { all_in table src.now ≡ true →
-            dst.new ≡ bytes_of end table (slice_index src.now 0) (slice_index src.now 1)
+        ensures answer { result ≡ (if all_in form.table src.now then pos 0 else pos 1) }
+        ensures written { all_in form.table src.now ≡ true →
+            dst.new ≡ bytes_of form.end form.table (slice_index src.now 0) (slice_index src.now 1)
             (slice_index src.now 2) (slice_index src.now 3) ++ drop 3 dst.old }
         ensures rest { drop 3 dst.new ≡ drop 3 dst.old }
         ensures steps { steps.new ≡ steps.old + 4 }
@@ -178,7 +176,7 @@ pub trait Alphabet: 'static + Copy + Debug + Eq + Sized {
     fn encode_3bytes_counted<L: Ledger>(src: &[u8], dst: &mut [u8], steps: &mut Steps<L>)
         requires three { length src.now ≡ 3 }
         requires room { 4 ≤ length dst.old }
-        ensures written { dst.new ≡ characters_of end table (slice_index src.now 0) (slice_index src.now 1)
+        ensures written { dst.new ≡ characters_of form.end form.table (slice_index src.now 0) (slice_index src.now 1)
             (slice_index src.now 2) ++ drop 4 dst.old }
         ensures steps { steps.new ≡ steps.old + 4 }
     {
@@ -189,14 +187,17 @@ pub trait Alphabet: 'static + Copy + Debug + Eq + Sized {
         dst[3] = Self::encode_6bits_counted(digits[3], steps);
     }
 
+    /// The form tells `PADDED`.
+    ghost tells_padding: { form.padded ≡ PADDED };
+
     /// 64 different ASCII characters with `A` and without `=`, CR and LF.
-    ghost lawful: { IsTrue (is_table table) };
+    ghost lawful: { IsTrue (is_table form.table) };
 
     /// The passes of `DECODER` answer the place in the table for all 256 bytes, and no sum leaves `i16`.
-    ghost decoder_answers: { IsTrue (decodes decode_steps table) };
+    ghost decoder_answers: { IsTrue (decodes decode_steps form.table) };
 
     /// The passes of `ENCODER` answer the character for 0 to 63, and no sum leaves `i16`.
-    ghost encoder_answers: { IsTrue (encodes BASE encode_steps table) };
+    ghost encoder_answers: { IsTrue (encodes BASE encode_steps form.table) };
 }
 
 /// What ties an alphabet to its unpadded form.
@@ -204,9 +205,9 @@ pub trait Unpad: Alphabet
 where
     Self::Unpadded: Alphabet,
 {
-    ghost same_table: { Self.Unpadded.table ≡ Self.table };
+    ghost same_table: { Self.Unpadded.form.table ≡ Self.form.table };
 
-    ghost same_end: { Self.Unpadded.end ≡ Self.end };
+    ghost same_end: { Self.Unpadded.form.end ≡ Self.form.end };
 
     ghost no_padding: { Self.Unpadded.PADDED ≡ false };
 }

@@ -20,9 +20,9 @@ pub fn decode_blocks<E: Alphabet, L: Ledger>(
 ) -> bool
     requires whole { length src.now % 4 ≡ 0 }
     requires room { 3 * (length src.now / 4) ≤ length dst.old }
-    ensures answer { result ≡ all_in E.table src.now }
-    ensures written { all_in E.table src.now ≡ true →
-        dst.new ≡ bytes_of_blocks E.end E.table src.now ++ drop (3 * (length src.now / 4)) dst.old }
+    ensures answer { result ≡ all_in E.form.table src.now }
+    ensures written { all_in E.form.table src.now ≡ true →
+        dst.new ≡ bytes_of_blocks E.form.end E.form.table src.now ++ drop (3 * (length src.now / 4)) dst.old }
     ensures rest { drop (3 * (length src.now / 4)) dst.new ≡ drop (3 * (length src.now / 4)) dst.old }
     ensures steps { steps.new ≡ steps.old + 4 * (length src.now / 4) }
 {
@@ -33,7 +33,7 @@ pub fn decode_blocks<E: Alphabet, L: Ledger>(
 pub fn encode_blocks<E: Alphabet, L: Ledger>(src: &[u8], dst: &mut [u8], steps: &mut Steps<L>)
     requires whole { length src.now % 3 ≡ 0 }
     requires room { 4 * (length src.now / 3) ≤ length dst.old }
-    ensures written { dst.new ≡ characters E.end E.table src.now ++ drop (4 * (length src.now / 3)) dst.old }
+    ensures written { dst.new ≡ characters E.form.end E.form.table src.now ++ drop (4 * (length src.now / 3)) dst.old }
     ensures steps { steps.new ≡ steps.old + 4 * (length src.now / 3) }
 {
     if encode_lanes::passes_read_places::<E>() {

@@ -32,7 +32,7 @@ pub(crate) fn encode_run<E: Alphabet, L: Ledger>(src: &[u8], dst: &mut [u8], ste
     requires passes { read_places E.encode_steps ≡ true }
     requires whole { length src.now % 3 ≡ 0 }
     requires room { 4 * (length src.now / 3) ≤ length dst.old }
-    ensures written { dst.new ≡ characters E.end E.table src.now ++ drop (4 * (length src.now / 3)) dst.old }
+    ensures written { dst.new ≡ characters E.form.end E.form.table src.now ++ drop (4 * (length src.now / 3)) dst.old }
     ensures steps { steps.new ≡ steps.old + 4 * (length src.now / 3) }
 {
     let parts = src.len() / 24;
@@ -44,7 +44,7 @@ pub(crate) fn encode_run<E: Alphabet, L: Ledger>(src: &[u8], dst: &mut [u8], ste
 pub(crate) fn encode_each<E: Alphabet, L: Ledger>(src: &[u8], dst: &mut [u8], steps: &mut Steps<L>)
     requires whole { length src.now % 3 ≡ 0 }
     requires room { 4 * (length src.now / 3) ≤ length dst.old }
-    ensures written { dst.new ≡ characters E.end E.table src.now ++ drop (4 * (length src.now / 3)) dst.old }
+    ensures written { dst.new ≡ characters E.form.end E.form.table src.now ++ drop (4 * (length src.now / 3)) dst.old }
     ensures steps { steps.new ≡ steps.old + 4 * (length src.now / 3) }
 {
     for group in 0..src.len() / 3 {
@@ -58,7 +58,7 @@ fn encode_parts<E: Alphabet, L: Ledger>(src: &[u8], dst: &mut [u8], steps: &mut 
     requires passes { read_places E.encode_steps ≡ true }
     requires whole { length src.now % 24 ≡ 0 }
     requires room { 32 * (length src.now / 24) ≤ length dst.old }
-    ensures written { dst.new ≡ characters E.end E.table src.now ++ drop (32 * (length src.now / 24)) dst.old }
+    ensures written { dst.new ≡ characters E.form.end E.form.table src.now ++ drop (32 * (length src.now / 24)) dst.old }
     ensures steps { steps.new ≡ steps.old + 32 * (length src.now / 24) }
 {
     for part in 0..src.len() / 24 {
@@ -72,7 +72,7 @@ fn encode_part<E: Alphabet, L: Ledger>(src: &[u8], dst: &mut [u8], steps: &mut S
     requires passes { read_places E.encode_steps ≡ true }
     requires bytes { length src.now ≡ 24 }
     requires room { length dst.old ≡ 32 }
-    ensures written { dst.new ≡ characters E.end E.table src.now }
+    ensures written { dst.new ≡ characters E.form.end E.form.table src.now }
     ensures steps { steps.new ≡ steps.old + 32 }
 {
     let mut groups = [0u8; 32];
@@ -87,7 +87,7 @@ fn characters_32<E: Alphabet, L: Ledger>(digits: u8x32, steps: &mut Steps<L>) ->
     requires passes { read_places E.encode_steps ≡ true }
     requires len { length digits ≡ 32 }
     requires below { all_below 64 digits ≡ true }
-    ensures characters { result ≡ map (slice_index E.table) digits }
+    ensures characters { result ≡ map (slice_index E.form.table) digits }
     ensures steps { steps.new ≡ steps.old + 32 }
 {
     steps.add(32);
@@ -136,7 +136,7 @@ fn above_lanes(bound: u8, offset: i16, places: u8x32) -> u8x32
 fn digits_32<E: Alphabet>(bytes: u8x32) -> u8x32
     requires len { length bytes ≡ 32 }
     requires bytes { (k : ℕ) → slice_index bytes k < 256 }
-    ensures digits { result ≡ digits_of_bytes E.end (take 24 bytes) }
+    ensures digits { result ≡ digits_of_bytes E.form.end (take 24 bytes) }
     ensures below { all_below 64 result ≡ true }
 {
     // as in decoding, the end is told by the first digit of the group 1, 0, 0

@@ -18,7 +18,7 @@ use std::sync::ledger::Ledger;
 
 /// Converts 32 characters, each to its place in the table or to -1.
 pub fn decode_32<E: Alphabet, L: Ledger>(src: &[u8; 32], steps: &mut Steps<L>) -> [i16; 32]
-    ensures places { result ≡ map (place_of E.table) src.now }
+    ensures places { result ≡ map (place_of E.form.table) src.now }
     ensures steps { steps.new ≡ steps.old + 32 }
 {
     widened(places_32::<E, L>(src, steps)).to_array()
@@ -30,9 +30,9 @@ pub fn decode_32<E: Alphabet, L: Ledger>(src: &[u8; 32], steps: &mut Steps<L>) -
 pub fn decode_run<E: Alphabet, L: Ledger>(src: &[u8], dst: &mut [u8], steps: &mut Steps<L>) -> i16
     requires whole { length src.now % 4 ≡ 0 }
     requires room { 3 * (length src.now / 4) ≤ length dst.old }
-    ensures answer { result ≡ (if all_in E.table src.now then pos 0 else pos 1) }
-    ensures written { all_in E.table src.now ≡ true →
-        dst.new ≡ bytes_of_blocks E.end E.table src.now ++ drop (3 * (length src.now / 4)) dst.old }
+    ensures answer { result ≡ (if all_in E.form.table src.now then pos 0 else pos 1) }
+    ensures written { all_in E.form.table src.now ≡ true →
+        dst.new ≡ bytes_of_blocks E.form.end E.form.table src.now ++ drop (3 * (length src.now / 4)) dst.old }
     ensures rest { drop (3 * (length src.now / 4)) dst.new ≡ drop (3 * (length src.now / 4)) dst.old }
     ensures steps { steps.new ≡ steps.old + length src.now }
 {
@@ -52,9 +52,9 @@ fn bad_as_one(good: bool) -> i16
 fn decode_parts<E: Alphabet, L: Ledger>(src: &[u8], dst: &mut [u8], steps: &mut Steps<L>) -> bool
     requires whole { length src.now % 32 ≡ 0 }
     requires room { 24 * (length src.now / 32) ≤ length dst.old }
-    ensures answer { result ≡ all_in E.table src.now }
-    ensures written { all_in E.table src.now ≡ true →
-        dst.new ≡ bytes_of_blocks E.end E.table src.now ++ drop (24 * (length src.now / 32)) dst.old }
+    ensures answer { result ≡ all_in E.form.table src.now }
+    ensures written { all_in E.form.table src.now ≡ true →
+        dst.new ≡ bytes_of_blocks E.form.end E.form.table src.now ++ drop (24 * (length src.now / 32)) dst.old }
     ensures rest { drop (24 * (length src.now / 32)) dst.new ≡ drop (24 * (length src.now / 32)) dst.old }
     ensures steps { steps.new ≡ steps.old + 32 * (length src.now / 32) }
 {
@@ -70,8 +70,8 @@ fn decode_parts<E: Alphabet, L: Ledger>(src: &[u8], dst: &mut [u8], steps: &mut 
 fn decode_part<E: Alphabet, L: Ledger>(src: &[u8], dst: &mut [u8], steps: &mut Steps<L>) -> bool
     requires chars { length src.now ≡ 32 }
     requires room { length dst.old ≡ 24 }
-    ensures answer { result ≡ all_in E.table src.now }
-    ensures written { all_in E.table src.now ≡ true → dst.new ≡ bytes_of_blocks E.end E.table src.now }
+    ensures answer { result ≡ all_in E.form.table src.now }
+    ensures written { all_in E.form.table src.now ≡ true → dst.new ≡ bytes_of_blocks E.form.end E.form.table src.now }
     ensures steps { steps.new ≡ steps.old + 32 }
 {
     let mut block = [0u8; 32];
@@ -85,9 +85,9 @@ fn decode_part<E: Alphabet, L: Ledger>(src: &[u8], dst: &mut [u8], steps: &mut S
 fn decode_each<E: Alphabet, L: Ledger>(src: &[u8], dst: &mut [u8], steps: &mut Steps<L>) -> bool
     requires whole { length src.now % 4 ≡ 0 }
     requires room { 3 * (length src.now / 4) ≤ length dst.old }
-    ensures answer { result ≡ all_in E.table src.now }
-    ensures written { all_in E.table src.now ≡ true →
-        dst.new ≡ bytes_of_blocks E.end E.table src.now ++ drop (3 * (length src.now / 4)) dst.old }
+    ensures answer { result ≡ all_in E.form.table src.now }
+    ensures written { all_in E.form.table src.now ≡ true →
+        dst.new ≡ bytes_of_blocks E.form.end E.form.table src.now ++ drop (3 * (length src.now / 4)) dst.old }
     ensures rest { drop (3 * (length src.now / 4)) dst.new ≡ drop (3 * (length src.now / 4)) dst.old }
     ensures steps { steps.new ≡ steps.old + 4 * (length src.now / 4) }
 {
@@ -103,7 +103,7 @@ fn decode_each<E: Alphabet, L: Ledger>(src: &[u8], dst: &mut [u8], steps: &mut S
 // The low bytes of the places of 32 characters: 255 for -1.
 #[inline(always)]
 fn places_32<E: Alphabet, L: Ledger>(src: &[u8; 32], steps: &mut Steps<L>) -> u8x32
-    ensures places { result ≡ map (λ c. low_byte (place_of E.table c)) src.now }
+    ensures places { result ≡ map (λ c. low_byte (place_of E.form.table c)) src.now }
     ensures steps { steps.new ≡ steps.old + 32 }
 {
     steps.add(32);
@@ -182,7 +182,7 @@ fn are_places(bytes: u8x32) -> bool
 fn grouped<E: Alphabet>(digits: u8x32) -> u8x32
     requires { length digits ≡ 32 }
     ensures len { length result ≡ 32 }
-    ensures bytes { all_below 64 digits ≡ true → take 24 result ≡ bytes_of_digits E.end digits }
+    ensures bytes { all_below 64 digits ≡ true → take 24 result ≡ bytes_of_digits E.form.end digits }
 {
     // the lowest bit of a group's first byte belongs to its first digit where a group is read from the low end
     if E::split_3bytes(1, 0, 0)[0] == 1 {

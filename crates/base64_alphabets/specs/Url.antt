@@ -1,6 +1,8 @@
 -- The alphabet that is safe in URLs and file names (RFC 4648 section 5, table 2), and its passes.
-use Rattle.std.specs.Prelude.{◌≡◌, ℕ, List, [], ◌∷◌, codes, pos, negsuc, true, refl}
+use Rattle.std.specs.Prelude.{◌≡◌, ℕ, List, [], ◌∷◌, codes, pos, negsuc, true, false, refl}
 use Rattle.base64_alphabet.specs.Table.{holds_below}
+use Rattle.base64_alphabet.specs.Group.{High}
+use Rattle.base64_alphabet.specs.Form.{Form}
 use Rattle.base64_alphabet.specs.Passes.{decodes, encodes}
 use Rattle.base64_alphabet.specs.declared.alphabet.DecodeStep.{DecodeStep}
 use Rattle.base64_alphabet.specs.declared.alphabet.DecodeStep.TheVariants.{Range, Eq}
@@ -10,6 +12,13 @@ use Rattle.base64_alphabet.specs.declared.alphabet.EncodeStep.TheVariants.{Diff}
 -- the characters for 0 to 63
 abbrev pub url : List ℕ
 url = codes "ABCDEFGHIJKLMNOPQRSTUVWXYZabcdefghijklmnopqrstuvwxyz0123456789-_"
+
+-- its texts with padding, and without
+abbrev pub url_padded : Form
+url_padded = record { end = High; table = url; padded = true }
+
+abbrev pub url_unpadded : Form
+url_unpadded = record { end = High; table = url; padded = false }
 
 -- the passes of `decode_6bits`
 abbrev pub url_decoder : List DecodeStep

@@ -12,9 +12,7 @@ use base64_alphabet::{Alphabet, DecodeStep, EncodeStep, Unpad, group_high, split
 pub struct Base64Bcrypt;
 
 impl Alphabet for Base64Bcrypt {
-    ghost table = { bcrypt };
-
-    ghost end = { High };
+    ghost form = { record { end = High; table = bcrypt; padded = false } };
 
     ghost BASE = { 46 };
 
@@ -58,6 +56,8 @@ impl Alphabet for Base64Bcrypt {
     fn split_3bytes(a: u8, b: u8, c: u8) -> [i16; 4] {
         split_high(a, b, c)
     }
+
+    ghost tells_padding = { refl };
 
     ghost lawful = { refl };
 

@@ -13,9 +13,7 @@ use base64_alphabet::{Alphabet, DecodeStep, EncodeStep, Unpad, group_high, split
 pub struct Base64Pbkdf2;
 
 impl Alphabet for Base64Pbkdf2 {
-    ghost table = { pbkdf2 };
-
-    ghost end = { High };
+    ghost form = { record { end = High; table = pbkdf2; padded = false } };
 
     ghost BASE = { 65 };
 
@@ -61,6 +59,8 @@ impl Alphabet for Base64Pbkdf2 {
     fn split_3bytes(a: u8, b: u8, c: u8) -> [i16; 4] {
         split_high(a, b, c)
     }
+
+    ghost tells_padding = { refl };
 
     ghost lawful = { refl };
 

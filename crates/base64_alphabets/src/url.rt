@@ -2,8 +2,7 @@
 #![tactic(auto)]
 
 ghost use Rattle.std.specs.Prelude.{◌≡◌, true, false, refl};
-ghost use Rattle.base64_alphabet.specs.Group.{High};
-ghost use Rattle.base64_alphabets.specs.Url.{url, url_decoder, url_encoder, url_decodes, url_encodes};
+ghost use Rattle.base64_alphabets.specs.Url.{url_padded, url_unpadded, url_decoder, url_encoder, url_decodes, url_encodes};
 
 use base64_alphabet::{Alphabet, DecodeStep, EncodeStep, Unpad, group_high, split_high};
 
@@ -33,9 +32,7 @@ const ENCODER: &'static [EncodeStep] = &[
 ];
 
 impl Alphabet for Base64Url {
-    ghost table = { url };
-
-    ghost end = { High };
+    ghost form = { url_padded };
 
     ghost BASE = { 65 };
 
@@ -71,6 +68,8 @@ impl Alphabet for Base64Url {
         split_high(a, b, c)
     }
 
+    ghost tells_padding = { refl };
+
     ghost lawful = { refl };
 
     ghost decoder_answers = { url_decodes };
@@ -87,9 +86,7 @@ impl Unpad for Base64Url {
 }
 
 impl Alphabet for Base64UrlUnpadded {
-    ghost table = { url };
-
-    ghost end = { High };
+    ghost form = { url_unpadded };
 
     ghost BASE = { 65 };
 
@@ -124,6 +121,8 @@ impl Alphabet for Base64UrlUnpadded {
     fn split_3bytes(a: u8, b: u8, c: u8) -> [i16; 4] {
         split_high(a, b, c)
     }
+
+    ghost tells_padding = { refl };
 
     ghost lawful = { refl };
 

@@ -28,9 +28,7 @@ const DECODER: &'static [DecodeStep] = &[
 const ENCODER: &'static [EncodeStep] = &[EncodeStep::Apply(b'9', 7), EncodeStep::Apply(b'Z', 6)];
 
 impl Alphabet for Base64Crypt {
-    ghost table = { crypt };
-
-    ghost end = { High };
+    ghost form = { record { end = High; table = crypt; padded = false } };
 
     ghost BASE = { 46 };
 
@@ -66,6 +64,8 @@ impl Alphabet for Base64Crypt {
         split_high(a, b, c)
     }
 
+    ghost tells_padding = { refl };
+
     ghost lawful = { refl };
 
     ghost decoder_answers = { crypt_decodes };
@@ -82,9 +82,7 @@ impl Unpad for Base64Crypt {
 }
 
 impl Alphabet for Base64ShaCrypt {
-    ghost table = { crypt };
-
-    ghost end = { Low };
+    ghost form = { record { end = Low; table = crypt; padded = false } };
 
     ghost BASE = { 46 };
 
@@ -119,6 +117,8 @@ impl Alphabet for Base64ShaCrypt {
     fn split_3bytes(a: u8, b: u8, c: u8) -> [i16; 4] {
         split_low(a, b, c)
     }
+
+    ghost tells_padding = { refl };
 
     ghost lawful = { refl };
 

@@ -6,6 +6,7 @@ use Rattle.std.proofs.Math.Seq.{drop-cons}
 use Rattle.std.proofs.lemmas.Bool.{cases_lt}
 use Rattle.std.specs.List.{flat_map}
 use Rattle.std.proofs.lemmas.List.{length-take-le, take-append-drop}
+use Rattle.base64_alphabet.proofs.Forms.{form}
 use Rattle.base64_alphabet.specs.Encoding.{characters, encoding_of}
 use Rattle.base64_alphabet.specs.Group.{End}
 use Rattle.base64_text.proofs.WholeLemmas.{encoding_of-append}
@@ -28,23 +29,24 @@ front_len (Some (width, ending)) t u wide =
 
 -- a front's whole groups
 pub sooner : (end : End) (table : List ℕ) (padded : Bool) (lines : Option (ℕ × LineEnding)) (x y : List ℕ) → IsWideEnough lines
-    → length (in_lines lines (encoding_of end table padded (whole_groups x))) ≤ length (in_lines lines (encoding_of end table padded (x ++ y)))
+    → length (in_lines lines (encoding_of (form end table padded) (whole_groups x))) ≤ length (in_lines lines (encoding_of (form end table padded) (x ++ y)))
 sooner end table padded lines x y wide =
     let n : ℕ = 3 * (length x / 3) in
     let len : length (take n x) ≡ n = length-take-le n x (omega arith) in
     let whole : length (take n x) % 3 ≡ 0 = omega arith in
     let split : x ++ y ≡ take n x ++ (drop n x ++ y) = ap (λ z. z ++ y) (sym (take-append-drop n x)) ∙ append_assoc (take n x) (drop n x) y in
     let front = whole_encoding end table padded (take n x) whole in
-    let all = ap (encoding_of end table padded) split ∙ encoding_of-append end table (take n x) (drop n x ++ y) padded whole in
-    rw (front, all) (front_len lines (characters end table (take n x)) (encoding_of end table padded (drop n x ++ y)) wide)
+    let all = ap (encoding_of (form end table padded)) split ∙ encoding_of-append end table (take n x) (drop n x ++ y) padded whole in
+    rw (front, all) (front_len lines (characters end table (take n x)) (encoding_of (form end table padded) (drop n x ++ y)) wide)
 
 -- what a piece is refused for, all pieces are
 pub refused_sooner : (end : End) (table : List ℕ) (padded : Bool) (lines : Option (ℕ × LineEnding)) (x y whole : List ℕ) (room : ℕ) → IsWideEnough lines
     → x ++ y ≡ whole
-    → (length (in_lines lines (encoding_of end table padded (whole_groups x))) ≤ room → ⊥) → room < length (in_lines lines (encoding_of end table padded whole))
+    → (length (in_lines lines (encoding_of (form end table padded) (whole_groups x))) ≤ room → ⊥)
+    → room < length (in_lines lines (encoding_of (form end table padded) whole))
 refused_sooner end table padded lines x y whole room wide is over =
     let l = sooner end table padded lines x y wide in
-    rw (← is) (elim (cases_lt room (length (in_lines lines (encoding_of end table padded (whole_groups x))))) [
+    rw (← is) (elim (cases_lt room (length (in_lines lines (encoding_of (form end table padded) (whole_groups x))))) [
       | inl lt ↦ omega arith
       | inr le ↦ absurd (over le)
     ])

@@ -13,7 +13,7 @@ fn take_pieces<E: Encoding>(encoder: &mut Encoder<'_, E>, pieces: &[&[u8]]) -> R
     ensures taken { OnOk result (encoder.new.taken ≡ encoder.old.taken ++ flat_map (λ piece. piece.now) pieces.now) }
     ensures same { OnOk result ((encoder.new.room ≡ encoder.old.room) × (encoder.new.lines ≡ encoder.old.lines)) }
     ensures err { IfErr result (λ e. (e ≡ Error.InvalidLength) × (encoder.old.room < length (in_lines encoder.old.lines
-        (encoding_of E.end E.table E.PADDED (encoder.old.taken ++ flat_map (λ piece. piece.now) pieces.now))))) }
+        (encoding_of E.form (encoder.old.taken ++ flat_map (λ piece. piece.now) pieces.now))))) }
 {
     for piece in pieces {
         encoder.encode(piece)?;
@@ -29,9 +29,9 @@ pub fn encode_pieces<'o, E: Encoding>(
     lines: Option<(usize, LineEnding)>,
     pieces: &[&[u8]],
 ) -> Result<&'o str, Error>
-    ensures text { IfOk result (λ text. text.now ≡ in_lines lines (encoding_of E.end E.table E.PADDED (flat_map (λ piece. piece.now) pieces.now))) }
+    ensures text { IfOk result (λ text. text.now ≡ in_lines lines (encoding_of E.form (flat_map (λ piece. piece.now) pieces.now))) }
     ensures fits { IsOk result ↔ (IsWideEnough lines × (0 < length output.entry.now)
-        × (length (in_lines lines (encoding_of E.end E.table E.PADDED (flat_map (λ piece. piece.now) pieces.now))) ≤ length output.entry.now)) }
+        × (length (in_lines lines (encoding_of E.form (flat_map (λ piece. piece.now) pieces.now))) ≤ length output.entry.now)) }
     ensures err { IfErr result (λ e. e ≡ Error.InvalidLength) }
 {
     let mut encoder = match lines {

@@ -14,9 +14,7 @@ use base64ct::{Alphabet, DecodeStep, EncodeStep, group_low, split_low};
 pub(crate) struct LowStandard;
 
 impl Alphabet for LowStandard {
-    ghost table = { standard };
-
-    ghost end = { Low };
+    ghost form = { record { end = Low; table = standard; padded = false } };
 
     ghost BASE = { 65 };
 
@@ -62,6 +60,8 @@ impl Alphabet for LowStandard {
     fn split_3bytes(a: u8, b: u8, c: u8) -> [i16; 4] {
         split_low(a, b, c)
     }
+
+    ghost tells_padding = { refl };
 
     ghost lawful = { refl };
 

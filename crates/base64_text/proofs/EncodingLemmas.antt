@@ -6,6 +6,7 @@ use Rattle.std.proofs.lemmas.List.{take-append-drop, take_at}
 use Rattle.std.proofs.lemmas.List.Elements.{All-append, All-cons, All-nil, All-replicate, All-tail, All-take}
 use Rattle.std.proofs.lemmas.Slice.{take-put_mid}
 use borrow.Rule.Slice.PartMut.{put_mid}
+use Rattle.base64_alphabet.proofs.Forms.{form}
 use Rattle.base64_alphabet.specs.Group.{End, High, Low, characters_of}
 use Rattle.base64_alphabet.specs.Encoding.{characters, encoding_of, padding_len}
 use Rattle.base64_alphabet.proofs.TableLemmas.{Facts, ascii_at}
@@ -24,7 +25,7 @@ length-all_characters Low table (x ∷ y ∷ []) = refl
 length-all_characters High table (x ∷ y ∷ z ∷ b) = let e = length-all_characters High table b in omega arith
 length-all_characters Low table (x ∷ y ∷ z ∷ b) = let e = length-all_characters Low table b in omega arith
 
-pub length-encoding_of : (end : End) (table b : List ℕ) (padded : Bool) → length (encoding_of end table padded b) ≡ encoded_len padded (length b)
+pub length-encoding_of : (end : End) (table b : List ℕ) (padded : Bool) → length (encoding_of (form end table padded) b) ≡ encoded_len padded (length b)
 length-encoding_of end table b true =
     let e = length-append (characters end table b) (replicate (padding_len (length b)) 61) in
     let l = length-all_characters end table b in
@@ -36,16 +37,16 @@ length-encoding_of end table b false =
 
 -- the length of an encoding that was made
 pub length-of_text : {T E : Type 0} (text_of : T → List ℕ) (end : End) (table b : List ℕ) (padded : Bool) (r : Result T E)
-    → IfOk r (λ text. text_of text ≡ encoding_of end table padded b) → IfOk r (λ text. length (text_of text) ≡ encoded_len padded (length b))
+    → IfOk r (λ text. text_of text ≡ encoding_of (form end table padded) b) → IfOk r (λ text. length (text_of text) ≡ encoded_len padded (length b))
 length-of_text text_of end table b padded (Ok text) is = ap length is ∙ length-encoding_of end table b padded
 length-of_text text_of end table b padded (Err e) is = is
 
-pub empty_encoding : (end : End) (table : List ℕ) (padded : Bool) → encoding_of end table padded [] ≡ []
+pub empty_encoding : (end : End) (table : List ℕ) (padded : Bool) → encoding_of (form end table padded) [] ≡ []
 unfolding characters
 empty_encoding end table true = refl
 empty_encoding end table false = refl
 
-pub none_text : (end : End) (table b : List ℕ) (padded : Bool) → length b ≡ 0 → [] ≡ encoding_of end table padded b
+pub none_text : (end : End) (table b : List ℕ) (padded : Bool) → length b ≡ 0 → [] ≡ encoding_of (form end table padded) b
 none_text end table [] padded h = sym (empty_encoding end table padded)
 none_text end table (x ∷ b) padded h = absurd (omega arith)
 
@@ -65,8 +66,8 @@ count_split padded n =
     rw (none, rest) (omega arith)
 
 pub encoded_text : (end : End) (table src dst tail new rest : List ℕ) (padded : Bool) (q k : ℕ) → q ≡ length src / 3 → 4 * q + k ≤ length dst
-    → dst ≡ characters end table (take (3 * q) src) ++ tail → new ≡ rest → length rest ≡ k → rest ≡ encoding_of end table padded (drop (3 * q) src)
-    → take (4 * q + k) (put_mid (4 * q) (4 * q + k - 4 * q) dst new) ≡ encoding_of end table padded src
+    → dst ≡ characters end table (take (3 * q) src) ++ tail → new ≡ rest → length rest ≡ k → rest ≡ encoding_of (form end table padded) (drop (3 * q) src)
+    → take (4 * q + k) (put_mid (4 * q) (4 * q + k - 4 * q) dst new) ≡ encoding_of (form end table padded) src
 encoded_text end table src dst tail new rest padded q k at room was is len text =
     let l : length (take (3 * q) src) ≡ 3 * q = grind (arith, common_steps) in
     let three : length (take (3 * q) src) % 3 ≡ 0 = omega arith in
@@ -75,9 +76,9 @@ encoded_text end table src dst tail new rest padded q k at room was is len text 
     take-put_mid (4 * q) (4 * q + k - 4 * q) dst new (4 * q + k) (omega arith) (omega arith)
     ∙ rw (was, is) (ap (λ xs. xs ++ rest) (take_at _ _ _ g) ∙ ap (λ ys. characters end table (take (3 * q) src) ++ ys) text
     ∙ sym (encoding_of-append end table (take (3 * q) src) (drop (3 * q) src) padded three)
-    ∙ ap (encoding_of end table padded) (take-append-drop (3 * q) src))
+    ∙ ap (encoding_of (form end table padded)) (take-append-drop (3 * q) src))
 
-pub encoding_some : (end : End) (table : List ℕ) (padded : Bool) (b : List ℕ) → 0 < length b → 0 < length (encoding_of end table padded b)
+pub encoding_some : (end : End) (table : List ℕ) (padded : Bool) (b : List ℕ) → 0 < length b → 0 < length (encoding_of (form end table padded) b)
 encoding_some end table true b some = let e = length-encoding_of end table b true in omega arith
 encoding_some end table false b some = let e = length-encoding_of end table b false in omega arith
 
@@ -91,7 +92,7 @@ some_characters Low table x (y ∷ []) = omega arith
 some_characters High table x (y ∷ z ∷ b) = omega arith
 some_characters Low table x (y ∷ z ∷ b) = omega arith
 
-pub empty_value : (end : End) (table : List ℕ) (padded : Bool) (b : List ℕ) → encoding_of end table padded b ≡ [] → b ≡ []
+pub empty_value : (end : End) (table : List ℕ) (padded : Bool) (b : List ℕ) → encoding_of (form end table padded) b ≡ [] → b ≡ []
 empty_value end table padded [] h = refl
 empty_value end table padded (x ∷ b) h = absurd (let s = some_characters end table x b in
     let e = length-append (characters end table (x ∷ b)) (if padded then replicate (padding_len (length (x ∷ b))) 61 else []) in
@@ -124,7 +125,7 @@ characters_all P end table (x ∷ y ∷ z ∷ b) h bytes = All-append P (charact
     (characters_all P end table b h (λ k d lt. bytes (suc (suc (suc k))) d (omega arith)))
 
 pub encoding_all : (P : ℕ → Type 0) (end : End) (table : List ℕ) (padded : Bool) (b : List ℕ) → ((k : ℕ) → k < 64 → P (slice_index table k)) → P 61
-    → IsBytes b → All P (encoding_of end table padded b)
+    → IsBytes b → All P (encoding_of (form end table padded) b)
 encoding_all P end table true b h pad bytes = All-append P (characters end table b) (replicate (padding_len (length b)) 61)
     (characters_all P end table b h bytes) (All-replicate P (padding_len (length b)) 61 pad)
 encoding_all P end table false b h pad bytes = All-append P (characters end table b) [] (characters_all P end table b h bytes) (All-nil P)
@@ -135,8 +136,8 @@ ascii_from_all (x ∷ xs) h zero = h 0 0 (omega arith)
 ascii_from_all (x ∷ xs) h (suc i) = ascii_from_all xs (All-tail (λ c. c < 128) x xs h) i
 
 pub encoding_all_ascii : (end : End) (table : List ℕ) (padded : Bool) (b : List ℕ) → Facts table → IsBytes b
-    → All (λ c. c < 128) (encoding_of end table padded b)
+    → All (λ c. c < 128) (encoding_of (form end table padded) b)
 encoding_all_ascii end table padded b f bytes = encoding_all (λ c. c < 128) end table padded b (λ k lt. ascii_at table f.ascii k) (omega arith) bytes
 
-pub encoding_ascii : (end : End) (table : List ℕ) (padded : Bool) (b : List ℕ) → Facts table → IsBytes b → IsAscii (encoding_of end table padded b)
-encoding_ascii end table padded b f bytes = ascii_from_all (encoding_of end table padded b) (encoding_all_ascii end table padded b f bytes)
+pub encoding_ascii : (end : End) (table : List ℕ) (padded : Bool) (b : List ℕ) → Facts table → IsBytes b → IsAscii (encoding_of (form end table padded) b)
+encoding_ascii end table padded b f bytes = ascii_from_all (encoding_of (form end table padded) b) (encoding_all_ascii end table padded b f bytes)

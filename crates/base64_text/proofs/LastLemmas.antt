@@ -5,6 +5,7 @@ use Rattle.std.proofs.lemmas.Bool.{cases_Bool, eqb-true, both_ways}
 use Rattle.std.proofs.lemmas.List.{take-append-le}
 use Rattle.std.proofs.lemmas.Grind.{common_steps}
 use lib.Pointwise.{pointwise}
+use Rattle.base64_alphabet.proofs.Forms.{form}
 use Rattle.base64_alphabet.specs.Encoding.{bytes_of_blocks, characters, encoding_of, padding_len}
 use Rattle.base64_alphabet.specs.Group.{End, High, Low, bytes_of, characters_of}
 use Rattle.base64_alphabet.specs.Table.{all_in, digit_of, is_in}
@@ -15,7 +16,7 @@ use Rattle.base64_text.proofs.Algebra.{same, is_in_at, digit_at, bytes_back, num
 
 -- the text of one byte, as it is written
 pub one_text : (end : End) (table bs dst : List ℕ) → length bs ≡ 1 → dst ≡ characters_of end table (slice_index bs 0) 0 0 ++ []
-    → (take 4 (set (set dst 2 61) 3 61) ≡ encoding_of end table true bs) × (take 2 (set (set dst 2 61) 3 61) ≡ encoding_of end table false bs)
+    → (take 4 (set (set dst 2 61) 3 61) ≡ encoding_of (form end table true) bs) × (take 2 (set (set dst 2 61) 3 61) ≡ encoding_of (form end table false) bs)
 unfolding characters
 one_text High table (a ∷ []) dst h is = rw is (refl, refl)
 one_text Low table (a ∷ []) dst h is = rw is (refl, refl)
@@ -23,7 +24,7 @@ one_text end table [] dst h is = absurd (omega arith)
 one_text end table (a ∷ b ∷ bs) dst h is = absurd (omega arith)
 
 pub two_text : (end : End) (table bs dst : List ℕ) → length bs ≡ 2 → dst ≡ characters_of end table (slice_index bs 0) (slice_index bs 1) 0 ++ []
-    → (take 4 (set dst 3 61) ≡ encoding_of end table true bs) × (take 3 (set dst 3 61) ≡ encoding_of end table false bs)
+    → (take 4 (set dst 3 61) ≡ encoding_of (form end table true) bs) × (take 3 (set dst 3 61) ≡ encoding_of (form end table false) bs)
 unfolding characters
 two_text High table (a ∷ b ∷ []) dst h is = rw is (refl, refl)
 two_text Low table (a ∷ b ∷ []) dst h is = rw is (refl, refl)
@@ -33,7 +34,7 @@ two_text end table (a ∷ b ∷ c ∷ bs) dst h is = absurd (omega arith)
 
 pub three_text : (end : End) (table bs dst : List ℕ) (padded : Bool) → length bs ≡ 3
     → dst ≡ characters_of end table (slice_index bs 0) (slice_index bs 1) (slice_index bs 2) ++ []
-    → take 4 dst ≡ encoding_of end table padded bs
+    → take 4 dst ≡ encoding_of (form end table padded) bs
 unfolding characters
 three_text High table (a ∷ b ∷ c ∷ []) dst true h is = rw is refl
 three_text Low table (a ∷ b ∷ c ∷ []) dst true h is = rw is refl
@@ -77,7 +78,7 @@ in_all : (table : List ℕ) (a b c d : ℕ) → is_in table a ≡ true → is_in
 in_all table a b c d p q r s = rw (p, q, r, s) refl
 
 one_last : (end : End) (table : List ℕ) (padded : Bool) (x : ℕ) → Facts table → x < 256
-    → IsLast end table padded (encoding_of end table padded (x ∷ [])) (x ∷ [])
+    → IsLast end table padded (encoding_of (form end table padded) (x ∷ [])) (x ∷ [])
 unfolding characters
 one_last High table padded x f lt =
     let n : ℕ = x * 65536 + 0 * 256 + 0 in
@@ -90,7 +91,7 @@ one_last High table padded x f lt =
     let dp = digit_at table (n / 262144) f.distinct (omega arith) in
     let dq = digit_at table (n / 4096 % 64) f.distinct (omega arith) in
     let byte : (n / 262144 * 262144 + n / 4096 % 64 * 4096 + digit_of table 65 * 64 + digit_of table 65) / 65536 ≡ x = omega arith in
-    elim padded as (λ p. IsLast High table p (encoding_of High table p (x ∷ [])) (x ∷ [])) [
+    elim padded as (λ p. IsLast High table p (encoding_of (form High table p) (x ∷ [])) (x ∷ [])) [
       | true ↦ record {
         two = omega arith;
         some = omega arith;
@@ -122,7 +123,7 @@ one_last Low table padded x f lt =
     let dp = digit_at table (n % 64) f.distinct (omega arith) in
     let dq = digit_at table (n / 64 % 64) f.distinct (omega arith) in
     let byte : (digit_of table 65 * 262144 + digit_of table 65 * 4096 + n / 64 % 64 * 64 + n % 64) % 256 ≡ x = omega arith in
-    elim padded as (λ p. IsLast Low table p (encoding_of Low table p (x ∷ [])) (x ∷ [])) [
+    elim padded as (λ p. IsLast Low table p (encoding_of (form Low table p) (x ∷ [])) (x ∷ [])) [
       | true ↦ record {
         two = omega arith;
         some = omega arith;
@@ -145,7 +146,7 @@ one_last Low table padded x f lt =
     ]
 
 two_last : (end : End) (table : List ℕ) (padded : Bool) (x y : ℕ) → Facts table → x < 256 → y < 256
-    → IsLast end table padded (encoding_of end table padded (x ∷ y ∷ [])) (x ∷ y ∷ [])
+    → IsLast end table padded (encoding_of (form end table padded) (x ∷ y ∷ [])) (x ∷ y ∷ [])
 unfolding characters
 two_last High table padded x y f lt lu =
     let n : ℕ = x * 65536 + y * 256 + 0 in
@@ -163,7 +164,7 @@ two_last High table padded x y f lt lu =
     let dr = digit_at table (n / 64 % 64) f.distinct (omega arith) in
     let byte : (n / 262144 * 262144 + n / 4096 % 64 * 4096 + n / 64 % 64 * 64 + digit_of table 65) / 65536 ≡ x = omega arith in
     let more : (n / 262144 * 262144 + n / 4096 % 64 * 4096 + n / 64 % 64 * 64 + digit_of table 65) / 256 % 256 ≡ y = omega arith in
-    elim padded as (λ p. IsLast High table p (encoding_of High table p (x ∷ y ∷ [])) (x ∷ y ∷ [])) [
+    elim padded as (λ p. IsLast High table p (encoding_of (form High table p) (x ∷ y ∷ [])) (x ∷ y ∷ [])) [
       | true ↦ record {
         two = omega arith;
         some = omega arith;
@@ -200,7 +201,7 @@ two_last Low table padded x y f lt lu =
     let dr = digit_at table (n / 4096 % 64) f.distinct (omega arith) in
     let byte : (digit_of table 65 * 262144 + n / 4096 % 64 * 4096 + n / 64 % 64 * 64 + n % 64) % 256 ≡ x = omega arith in
     let more : (digit_of table 65 * 262144 + n / 4096 % 64 * 4096 + n / 64 % 64 * 64 + n % 64) / 256 % 256 ≡ y = omega arith in
-    elim padded as (λ p. IsLast Low table p (encoding_of Low table p (x ∷ y ∷ [])) (x ∷ y ∷ [])) [
+    elim padded as (λ p. IsLast Low table p (encoding_of (form Low table p) (x ∷ y ∷ [])) (x ∷ y ∷ [])) [
       | true ↦ record {
         two = omega arith;
         some = omega arith;
@@ -223,7 +224,7 @@ two_last Low table padded x y f lt lu =
     ]
 
 three_last : (end : End) (table : List ℕ) (padded : Bool) (x y z : ℕ) → Facts table → x < 256 → y < 256 → z < 256
-    → IsLast end table padded (encoding_of end table padded (x ∷ y ∷ z ∷ [])) (x ∷ y ∷ z ∷ [])
+    → IsLast end table padded (encoding_of (form end table padded) (x ∷ y ∷ z ∷ [])) (x ∷ y ∷ z ∷ [])
 unfolding characters
 three_last High table padded x y z f lt lu lv =
     let n : ℕ = x * 65536 + y * 256 + z in
@@ -243,7 +244,7 @@ three_last High table padded x y z f lt lu lv =
     let dr = digit_at table (n / 64 % 64) f.distinct (omega arith) in
     let ds = digit_at table (n % 64) f.distinct (omega arith) in
     let back = ap (take 3) (bytes_back High x y z lt lu lv) in
-    elim padded as (λ p. IsLast High table p (encoding_of High table p (x ∷ y ∷ z ∷ [])) (x ∷ y ∷ z ∷ [])) [
+    elim padded as (λ p. IsLast High table p (encoding_of (form High table p) (x ∷ y ∷ z ∷ [])) (x ∷ y ∷ z ∷ [])) [
       | true ↦ record {
         two = omega arith;
         some = omega arith;
@@ -282,7 +283,7 @@ three_last Low table padded x y z f lt lu lv =
     let dr = digit_at table (n / 4096 % 64) f.distinct (omega arith) in
     let ds = digit_at table (n / 262144) f.distinct (omega arith) in
     let back = ap (take 3) (bytes_back Low x y z lt lu lv) in
-    elim padded as (λ p. IsLast Low table p (encoding_of Low table p (x ∷ y ∷ z ∷ [])) (x ∷ y ∷ z ∷ [])) [
+    elim padded as (λ p. IsLast Low table p (encoding_of (form Low table p) (x ∷ y ∷ z ∷ [])) (x ∷ y ∷ z ∷ [])) [
       | true ↦ record {
         two = omega arith;
         some = omega arith;
@@ -313,20 +314,20 @@ length_some Low table x (y ∷ []) = omega arith
 length_some High table x (y ∷ z ∷ b) = omega arith
 length_some Low table x (y ∷ z ∷ b) = omega arith
 
-length_long : (end : End) (table : List ℕ) (padded : Bool) (x y z w : ℕ) (b : List ℕ) → 5 ≤ length (encoding_of end table padded (x ∷ y ∷ z ∷ w ∷ b))
+length_long : (end : End) (table : List ℕ) (padded : Bool) (x y z w : ℕ) (b : List ℕ) → 5 ≤ length (encoding_of (form end table padded) (x ∷ y ∷ z ∷ w ∷ b))
 unfolding characters
 length_long High table padded x y z w b = let l = length_some High table w b in let e =
     length-append (characters High table (x ∷ y ∷ z ∷ w ∷ b)) (if padded then replicate (padding_len (length (x ∷ y ∷ z ∷ w ∷ b))) 61 else []) in omega arith
 length_long Low table padded x y z w b = let l = length_some Low table w b in let e =
     length-append (characters Low table (x ∷ y ∷ z ∷ w ∷ b)) (if padded then replicate (padding_len (length (x ∷ y ∷ z ∷ w ∷ b))) 61 else []) in omega arith
 
-none_length : (end : End) (table : List ℕ) (padded : Bool) → length (encoding_of end table padded []) ≡ 0
+none_length : (end : End) (table : List ℕ) (padded : Bool) → length (encoding_of (form end table padded) []) ≡ 0
 unfolding characters
 none_length end table true = refl
 none_length end table false = refl
 
 pub is_last : (end : End) (table : List ℕ) (padded : Bool) (last b : List ℕ) → Facts table → IsBytes b → 1 ≤ length last → length last ≤ 4
-    → last ≡ encoding_of end table padded b → IsLast end table padded last b
+    → last ≡ encoding_of (form end table padded) b → IsLast end table padded last b
 is_last end table padded last [] f bytes some few is = absurd (let e = none_length end table padded in let l = ap length is in omega arith)
 is_last end table padded last (x ∷ []) f bytes some few is = rw is (one_last end table padded x f (bytes 0 0 (omega arith)))
 is_last end table padded last (x ∷ y ∷ []) f bytes some few is = rw is (two_last end table padded x y f (bytes 0 0 (omega arith)) (bytes 1 0 (omega arith)))
@@ -344,7 +345,7 @@ pub same_texts : (xs ys : List ℕ) → xs ≡ ys → pointwise eqb xs ys ≡ tr
 same_texts xs ys h = rw h (same_text ys)
 
 -- a last block's loose bytes
-pub last_loose : (end : End) (table : List ℕ) (padded : Bool) (last b : List ℕ) → IsLast end table padded last b → loose_bytes end table padded last ≡ b
+pub last_loose : (end : End) (table : List ℕ) (padded : Bool) (last b : List ℕ) → IsLast end table padded last b → loose_bytes (form end table padded) last ≡ b
 unfolding bytes_of_blocks
 last_loose end table padded last [] l = absurd (let s = l.some in omega arith)
 last_loose end table padded [] (x ∷ b) l = absurd (let s = l.two in omega arith)

@@ -6,6 +6,7 @@ use Rattle.std.proofs.lemmas.Bool.{cases_lt, cases_eq, and_parts}
 use Rattle.std.proofs.lemmas.List.{take-append-drop, length-take-le, take-take, drop-take, take_at, drop_at, drop-drop, length-replicate}
 use mir.Syntax.{w16}
 use borrow.Rule.Slice.PartMut.{put_mid}
+use Rattle.base64_alphabet.proofs.Forms.{form}
 use Rattle.base64_alphabet.specs.Table.{all_in}
 use Rattle.base64_alphabet.specs.Group.{End, bytes_of}
 use Rattle.base64_alphabet.specs.Encoding.{encoding_of, bytes_of_blocks}
@@ -111,7 +112,7 @@ clean_parts table src padded u rest is whole cut =
 -- the bytes of a clean text
 pub loose_parts : (end : End) (table src : List ℕ) (padded : Bool) (u : ℕ) (rest : List ℕ) → u ≡ unpadded_len padded src
     → rest ≡ take (u - 4 * (u / 4)) (drop (4 * (u / 4)) src)
-    → loose_bytes end table padded src ≡ bytes_of_blocks end table (take (4 * (u / 4)) src)
+    → loose_bytes (form end table padded) src ≡ bytes_of_blocks end table (take (4 * (u / 4)) src)
     ++ take (3 * (u % 4) / 4) (bytes_of_blocks end table (rest ++ replicate (4 - length rest) 65))
 loose_parts end table src padded u rest is cut =
     let le : u ≤ length src = (let l = unpadded_le padded src in omega arith) in
@@ -165,7 +166,7 @@ clean_split table src padded q le two =
 
 pub loose_split : (end : End) (table src : List ℕ) (padded : Bool) (q : ℕ) → 4 * q ≤ length src → (padded ≡ true → 2 ≤ length (drop (4 * q) src))
     → 1 ≤ unpadded_len padded (drop (4 * q) src)
-    → loose_bytes end table padded src ≡ bytes_of_blocks end table (take (4 * q) src) ++ loose_bytes end table padded (drop (4 * q) src)
+    → loose_bytes (form end table padded) src ≡ bytes_of_blocks end table (take (4 * q) src) ++ loose_bytes (form end table padded) (drop (4 * q) src)
 loose_split end table src padded q le two some =
     let u = unpadded_split padded src (4 * q) le two in
     let l = length-drop (4 * q) src in
@@ -193,18 +194,18 @@ loose_split end table src padded q le two some =
 -- an encoding is clean, and its bytes are those that it stands for
 pub record IsText (end : End) (table : List ℕ) (padded : Bool) (src b : List ℕ) : Type 0 where
   pub clean : is_clean table padded src ≡ true
-  pub loose : loose_bytes end table padded src ≡ b
+  pub loose : loose_bytes (form end table padded) src ≡ b
 
 empty_clean : (table : List ℕ) (padded : Bool) → is_clean table padded [] ≡ true
 empty_clean table true = refl
 empty_clean table false = refl
 
-pub empty_loose : (end : End) (table : List ℕ) (padded : Bool) → loose_bytes end table padded [] ≡ []
+pub empty_loose : (end : End) (table : List ℕ) (padded : Bool) → loose_bytes (form end table padded) [] ≡ []
 unfolding bytes_of_blocks
 empty_loose end table true = refl
 empty_loose end table false = refl
 
-pub is_text : (end : End) (table : List ℕ) (padded : Bool) (src b : List ℕ) → Facts table → IsBytes b → src ≡ encoding_of end table padded b
+pub is_text : (end : End) (table : List ℕ) (padded : Bool) (src b : List ℕ) → Facts table → IsBytes b → src ≡ encoding_of (form end table padded) b
     → IsText end table padded src b
 is_text end table padded [] b f bytes is = record {
   clean = empty_clean table padded;
@@ -223,14 +224,15 @@ is_text end table padded (x ∷ src) b f bytes is =
     record {
       clean = clean_split table (x ∷ src) padded ((length (x ∷ src) - 1) / 4) (omega arith) (λ p. last.two) ∙ rw (h.front, front.0, last.clean) refl;
       loose = loose_split end table (x ∷ src) padded ((length (x ∷ src) - 1) / 4) (omega arith) (λ p. last.two) (omega arith)
-          ∙ ap (λ xs. bytes_of_blocks end table xs ++ loose_bytes end table padded (drop (4 * ((length (x ∷ src) - 1) / 4)) (x ∷ src))) h.front
-          ∙ ap (λ xs. xs ++ loose_bytes end table padded (drop (4 * ((length (x ∷ src) - 1) / 4)) (x ∷ src))) front.1
+          ∙ ap (λ xs. bytes_of_blocks end table xs ++ loose_bytes (form end table padded) (drop (4 * ((length (x ∷ src) - 1) / 4)) (x ∷ src))) h.front
+          ∙ ap (λ xs. xs ++ loose_bytes (form end table padded) (drop (4 * ((length (x ∷ src) - 1) / 4)) (x ∷ src))) front.1
           ∙ ap (λ xs. take (3 * ((length (x ∷ src) - 1) / 4)) b ++ xs)
           (last_loose end table padded (drop (4 * ((length (x ∷ src) - 1) / 4)) (x ∷ src)) (drop (3 * ((length (x ∷ src) - 1) / 4)) b) last)
           ∙ take-append-drop (3 * ((length (x ∷ src) - 1) / 4)) b;
     }
 
-pub length-loose_bytes : (end : End) (table src : List ℕ) (padded : Bool) → length (loose_bytes end table padded src) ≡ decoded_len (unpadded_len padded src)
+pub length-loose_bytes : (end : End) (table src : List ℕ) (padded : Bool) → length (loose_bytes (form end table padded) src)
+    ≡ decoded_len (unpadded_len padded src)
 length-loose_bytes end table src padded =
     let u : ℕ = unpadded_len padded src in
     elim (cases_eq (unpadded_len padded src) 0) [
@@ -254,8 +256,8 @@ pub record IsLoose (end : End) (table src : List ℕ) (padded : Bool) (q : ℕ) 
   pub few : decoded_len (unpadded_len padded src) - 3 * q ≤ 3
   pub some : 1 ≤ decoded_len (unpadded_len padded src) - 3 * q
   pub whole : (decoded_len (unpadded_len padded src) - 3 * q ≡ 3) ↔ (unpadded_len padded src % 4 ≡ 0)
-  pub last : drop (3 * q) (loose_bytes end table padded src) ≡ loose_bytes end table padded (drop (4 * q) src)
-  pub split : loose_bytes end table padded src ≡ bytes_of_blocks end table (take (4 * q) src) ++ loose_bytes end table padded (drop (4 * q) src)
+  pub last : drop (3 * q) (loose_bytes (form end table padded) src) ≡ loose_bytes (form end table padded) (drop (4 * q) src)
+  pub split : loose_bytes (form end table padded) src ≡ bytes_of_blocks end table (take (4 * q) src) ++ loose_bytes (form end table padded) (drop (4 * q) src)
 
 not_one : (n : ℕ) → not (n == 1) ≡ true → n ≡ 1 → ⊥
 not_one n h e = let bad : not true ≡ true = rw e at h in cc
@@ -287,27 +289,29 @@ is_loose end table src padded q at some whole clean =
       few = omega (arith, ne);
       some = omega (arith, ne);
       whole = (λ e. omega (arith, ne), λ e. omega (arith, ne));
-      last = ap (drop (3 * q)) split ∙ drop_at (bytes_of_blocks end table (take (4 * q) src)) (loose_bytes end table padded (drop (4 * q) src)) (3 * q) blocks;
+      last = ap (drop (3 * q)) split ∙ drop_at (bytes_of_blocks end table (take (4 * q) src)) (loose_bytes (form end table padded) (drop (4 * q) src))
+      (3 * q) blocks;
       split = split;
     }
 
 -- a clean text whose last block is the encoding of its last bytes is the encoding of its bytes
 pub text_from_last : (end : End) (table src last : List ℕ) (padded : Bool) (q : ℕ) → Facts table → q ≡ (length src - 1) / 4 → 0 < length src
     → IsLoose end table src padded q
-    → last ≡ drop (3 * q) (loose_bytes end table padded src) → drop (4 * q) src ≡ encoding_of end table padded last
-    → src ≡ encoding_of end table padded (loose_bytes end table padded src)
+    → last ≡ drop (3 * q) (loose_bytes (form end table padded) src) → drop (4 * q) src ≡ encoding_of (form end table padded) last
+    → src ≡ encoding_of (form end table padded) (loose_bytes (form end table padded) src)
 text_from_last end table src last padded q f at some loose is text =
     whole_text end table padded src last q f (omega arith) loose.front text
-    ∙ ap (λ xs. encoding_of end table padded (bytes_of_blocks end table (take (4 * q) src) ++ xs)) (is ∙ loose.last)
-    ∙ ap (encoding_of end table padded) (sym loose.split)
+    ∙ ap (λ xs. encoding_of (form end table padded) (bytes_of_blocks end table (take (4 * q) src) ++ xs)) (is ∙ loose.last)
+    ∙ ap (encoding_of (form end table padded)) (sym loose.split)
 
 -- and no other text has bytes
 pub none_from_last : (end : End) (table src last : List ℕ) (padded : Bool) (q : ℕ) → Facts table → q ≡ (length src - 1) / 4 → 0 < length src
-    → last ≡ drop (3 * q) (loose_bytes end table padded src) → (drop (4 * q) src ≡ encoding_of end table padded last → ⊥) → IsNoEncoding end table padded src
+    → last ≡ drop (3 * q) (loose_bytes (form end table padded) src) → (drop (4 * q) src ≡ encoding_of (form end table padded) last → ⊥)
+    → IsNoEncoding (form end table padded) src
 none_from_last end table src last padded q f at some is differs b bytes text =
     let h = halves end table padded src b q (omega arith) bytes text in
     let same = (is_text end table padded src b f bytes text).loose in
-    differs (h.rest ∙ ap (λ xs. encoding_of end table padded xs) (ap (drop (3 * q)) (sym same) ∙ sym is))
+    differs (h.rest ∙ ap (λ xs. encoding_of (form end table padded) xs) (ap (drop (3 * q)) (sym same) ∙ sym is))
 
 -- what was written over the front
 pub written_front : (end : End) (table src dst new buf : List ℕ) (q k : ℕ) → 4 * q ≤ length src → 3 * q + k ≤ length dst

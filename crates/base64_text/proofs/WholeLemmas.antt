@@ -7,6 +7,7 @@ use Rattle.std.proofs.lemmas.List.{get_or-drop, get_or-take, take-append-drop, d
 use Rattle.std.proofs.lemmas.List.Sums.{count_by-le-length}
 use Rattle.std.proofs.lemmas.Slice.{take-put_mid}
 use borrow.Rule.Slice.PartMut.{put_mid}
+use Rattle.base64_alphabet.proofs.Forms.{form}
 use Rattle.base64_alphabet.specs.Encoding.{bytes_of_blocks, characters, encoding_of, padding_len}
 use Rattle.base64_alphabet.specs.Group.{End, High, Low}
 use Rattle.base64_alphabet.specs.Table.{all_in}
@@ -32,7 +33,7 @@ unpadded_split true src at le two =
     rw (q, ← drop-drop (length (drop at src) - 2) at src) (omega arith)
 
 pub encoding_of-append : (end : End) (table x y : List ℕ) (padded : Bool) → length x % 3 ≡ 0
-    → encoding_of end table padded (x ++ y) ≡ characters end table x ++ encoding_of end table padded y
+    → encoding_of (form end table padded) (x ++ y) ≡ characters end table x ++ encoding_of (form end table padded) y
 encoding_of-append end table x y padded whole =
     let e = length-append x y in
     let p : padding_len (length (x ++ y)) ≡ padding_len (length y) = omega arith in
@@ -70,7 +71,7 @@ pub len_pad : (n : ℕ) → length {A = ℕ} (replicate n 61) ≡ n
 len_pad zero = refl
 len_pad (suc n) = ap suc (len_pad n)
 
-length_enc : (end : End) (table b : List ℕ) (padded : Bool) → length (encoding_of end table padded b) ≤ 4 * ((length b + 2) / 3)
+length_enc : (end : End) (table b : List ℕ) (padded : Bool) → length (encoding_of (form end table padded) b) ≤ 4 * ((length b + 2) / 3)
 length_enc end table b true =
     let l : length (characters end table b) ≤ 4 * ((length b + 2) / 3) - padding_len (length b) = length_most end table b in
     let e = length-append (characters end table b) (replicate (padding_len (length b)) 61) in
@@ -83,12 +84,13 @@ length_enc end table b false =
 -- a text that is an encoding, by its first 4 * q characters and the rest, which is not empty
 pub record Halves (end : End) (table : List ℕ) (padded : Bool) (src b : List ℕ) (q : ℕ) : Type 0 where
   pub front : take (4 * q) src ≡ characters end table (take (3 * q) b)
-  pub rest : drop (4 * q) src ≡ encoding_of end table padded (drop (3 * q) b)
+  pub rest : drop (4 * q) src ≡ encoding_of (form end table padded) (drop (3 * q) b)
   pub whole : length (take (3 * q) b) % 3 ≡ 0
   pub front_bytes : IsBytes (take (3 * q) b)
   pub rest_bytes : IsBytes (drop (3 * q) b)
 
-pub halves : (end : End) (table : List ℕ) (padded : Bool) (src b : List ℕ) (q : ℕ) → 4 * q < length src → IsBytes b → src ≡ encoding_of end table padded b
+pub halves : (end : End) (table : List ℕ) (padded : Bool) (src b : List ℕ) (q : ℕ) → 4 * q < length src → IsBytes b → src
+    ≡ encoding_of (form end table padded) b
     → Halves end table padded src b q
 halves end table padded src b q more bytes is =
     let most = length_enc end table b padded in
@@ -97,8 +99,9 @@ halves end table padded src b q more bytes is =
     let len : length (take (3 * q) b) ≡ 3 * q = grind (arith, common_steps) in
     let whole : length (take (3 * q) b) % 3 ≡ 0 = omega arith in
     let four : length (characters end table (take (3 * q) b)) ≡ 4 * q = length-characters end table (take (3 * q) b) whole ∙ rw len (omega arith) in
-    let split : src ≡ characters end table (take (3 * q) b) ++ encoding_of end table padded (drop (3 * q) b)
-    = is ∙ ap (encoding_of end table padded) (sym (take-append-drop (3 * q) b)) ∙ encoding_of-append end table (take (3 * q) b) (drop (3 * q) b) padded whole in
+    let split : src ≡ characters end table (take (3 * q) b) ++ encoding_of (form end table padded) (drop (3 * q) b)
+    = is ∙ ap (encoding_of (form end table padded)) (sym (take-append-drop (3 * q) b))
+    ∙ encoding_of-append end table (take (3 * q) b) (drop (3 * q) b) padded whole in
     record {
       front = ap (take (4 * q)) split ∙ take_at _ _ _ four;
       rest = ap (drop (4 * q)) split ∙ drop_at _ _ _ four;
@@ -109,22 +112,22 @@ halves end table padded src b q more bytes is =
 
 -- no bytes, since the last block has none
 pub none_by_rest : (end : End) (table : List ℕ) (padded : Bool) (src : List ℕ) (q : ℕ) → 4 * q < length src
-    → IsNoEncoding end table padded (drop (4 * q) src) → IsNoEncoding end table padded src
+    → IsNoEncoding (form end table padded) (drop (4 * q) src) → IsNoEncoding (form end table padded) src
 none_by_rest end table padded src q more none b bytes is =
     let h = halves end table padded src b q more bytes is in
     none (drop (3 * q) b) h.rest_bytes h.rest
 
 -- no bytes, since a character of the front is not in the table
 pub none_by_front : (end : End) (table : List ℕ) (padded : Bool) (src : List ℕ) (q : ℕ) → Facts table → 4 * q < length src
-    → all_in table (take (4 * q) src) ≡ false → IsNoEncoding end table padded src
+    → all_in table (take (4 * q) src) ≡ false → IsNoEncoding (form end table padded) src
 none_by_front end table padded src q f more bad b bytes is =
     let h = halves end table padded src b q more bytes is in
     both_ways _ bad (ap (all_in table) h.front ∙ (bytes_of_blocks_characters end table (take (3 * q) b) f h.front_bytes h.whole).0)
 
 -- the bytes of the front and of the last block are the bytes of the text
 pub whole_text : (end : End) (table : List ℕ) (padded : Bool) (src last_bytes : List ℕ) (q : ℕ) → Facts table → 4 * q ≤ length src
-    → all_in table (take (4 * q) src) ≡ true → drop (4 * q) src ≡ encoding_of end table padded last_bytes
-    → src ≡ encoding_of end table padded (bytes_of_blocks end table (take (4 * q) src) ++ last_bytes)
+    → all_in table (take (4 * q) src) ≡ true → drop (4 * q) src ≡ encoding_of (form end table padded) last_bytes
+    → src ≡ encoding_of (form end table padded) (bytes_of_blocks end table (take (4 * q) src) ++ last_bytes)
 whole_text end table padded src last_bytes q f le good rest =
     let front : List ℕ = take (4 * q) src in
     let len : length (take (4 * q) src) ≡ 4 * q = grind (arith, common_steps) in
@@ -132,7 +135,7 @@ whole_text end table padded src last_bytes q f le good rest =
     let g = length-bytes_of_blocks end table (take (4 * q) src) four in
     let three : length (bytes_of_blocks end table (take (4 * q) src)) % 3 ≡ 0 = omega arith in
     sym (encoding_of-append end table (bytes_of_blocks end table (take (4 * q) src)) last_bytes padded three
-    ∙ ap (λ xs. xs ++ encoding_of end table padded last_bytes) (characters_bytes_of_blocks end table (take (4 * q) src) f four good)
+    ∙ ap (λ xs. xs ++ encoding_of (form end table padded) last_bytes) (characters_bytes_of_blocks end table (take (4 * q) src) f four good)
     ∙ ap (λ ys. take (4 * q) src ++ ys) (sym rest) ∙ take-append-drop (4 * q) src)
 
 -- what was written
@@ -155,7 +158,7 @@ has_room padded src q k space is some whole size le most =
     let e = unpadded_split padded src (4 * q) (omega arith) (λ p. let w = whole p in omega arith) in
     omega arith
 
-pub empty_text : (end : End) (table src : List ℕ) (padded : Bool) → length src ≡ 0 → src ≡ encoding_of end table padded []
+pub empty_text : (end : End) (table src : List ℕ) (padded : Bool) → length src ≡ 0 → src ≡ encoding_of (form end table padded) []
 unfolding characters
 empty_text end table [] true h = refl
 empty_text end table [] false h = refl

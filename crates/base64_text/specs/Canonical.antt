@@ -1,7 +1,7 @@
 -- Canonical texts (RFC 4648 section 3.5), and why a whole text is refused.
 use Rattle.std.specs.Prelude.{◌≡◌, ◌≢◌, ℕ, ◌+◌, ◌-◌, ◌*◌, ◌/◌, ◌%◌, ◌<◌, ◌≤◌, ◌^◌, Bool, true, not, ◌==◌, nat_le, ◌&&◌, ◌||◌, ◌⊎◌, if◌then◌else◌, List, []}
 use Rattle.std.specs.Prelude.{◌∷◌, ◌++◌, length, take, drop, replicate, count_by, All}
-use Rattle.base64_alphabet.specs.Group.{End}
+use Rattle.base64_alphabet.specs.Form.{Form}
 use Rattle.base64_alphabet.specs.Table.{all_in}
 use Rattle.base64_alphabet.specs.Encoding.{encoding_of, bytes_of_blocks}
 use Rattle.base64_text.specs.declared.errors.Error.{Error}
@@ -12,8 +12,8 @@ abbrev pub IsBytes : List ℕ → Type 0
 IsBytes b = All (λ x. x < 256) b
 
 -- no bytes have this text as their encoding
-abbrev pub IsNoEncoding : End → List ℕ → Bool → List ℕ → Type 0
-IsNoEncoding end table padded t = (b : List ℕ) → IsBytes b → t ≡ encoding_of end table padded b → ⊥
+abbrev pub IsNoEncoding : Form → List ℕ → Type 0
+IsNoEncoding form t = (b : List ℕ) → IsBytes b → t ≡ encoding_of form b → ⊥
 
 -- how many bytes u characters stand for
 abbrev pub decoded_len : ℕ → ℕ
@@ -36,26 +36,26 @@ is_clean table padded t = all_in table (take (unpadded_len padded t) t) && all_p
 
 -- the bytes that a clean text's characters stand for, whatever bits follow the last byte: a short last block
 -- is filled with `A`
-abbrev pub loose_bytes : End → List ℕ → Bool → List ℕ → List ℕ
-loose_bytes end table padded t = take (decoded_len (unpadded_len padded t))
-    (bytes_of_blocks end table (take (unpadded_len padded t) t ++ replicate (3 - (unpadded_len padded t - 1) % 4) 65))
+abbrev pub loose_bytes : Form → List ℕ → List ℕ
+loose_bytes form t = take (decoded_len (unpadded_len form.padded t)) (bytes_of_blocks form.end form.table
+    (take (unpadded_len form.padded t) t ++ replicate (3 - (unpadded_len form.padded t - 1) % 4) 65))
 
 -- a padded text has whole blocks of four characters
 abbrev pub HasWholeBlocks : Bool → List ℕ → Type 0
 HasWholeBlocks padded t = padded ≡ true → length t % 4 ≡ 0
 
 -- why `decode` refuses a text, with an output of `space` bytes: the first of its tests that fails
-abbrev pub IsDecodeError : End → List ℕ → Bool → List ℕ → ℕ → Error → Type 0
-IsDecodeError end table padded t space InvalidEncoding = ((padded ≡ true) × (length t % 4 ≢ 0))
-    ⊎ (HasWholeBlocks padded t × (decoded_len (unpadded_len padded t) ≤ space) × IsNoEncoding end table padded t)
-IsDecodeError end table padded t space InvalidLength = HasWholeBlocks padded t × (space < decoded_len (unpadded_len padded t))
-IsDecodeError end table padded t space OutOfMemory = ⊥
+abbrev pub IsDecodeError : Form → List ℕ → ℕ → Error → Type 0
+IsDecodeError form t space InvalidEncoding = ((form.padded ≡ true) × (length t % 4 ≢ 0))
+    ⊎ (HasWholeBlocks form.padded t × (decoded_len (unpadded_len form.padded t) ≤ space) × IsNoEncoding form t)
+IsDecodeError form t space InvalidLength = HasWholeBlocks form.padded t × (space < decoded_len (unpadded_len form.padded t))
+IsDecodeError form t space OutOfMemory = ⊥
 
 -- why `decode_vec` refuses a text
-abbrev pub IsDecodeVecError : End → List ℕ → Bool → List ℕ → Error → Type 0
-IsDecodeVecError end table padded t InvalidEncoding = IsNoEncoding end table padded t
-IsDecodeVecError end table padded t InvalidLength = ⊥
-IsDecodeVecError end table padded t OutOfMemory = Unit {0}
+abbrev pub IsDecodeVecError : Form → List ℕ → Error → Type 0
+IsDecodeVecError form t InvalidEncoding = IsNoEncoding form t
+IsDecodeVecError form t InvalidLength = ⊥
+IsDecodeVecError form t OutOfMemory = Unit {0}
 
 -- the test of `decode_in_place`'s length: a padded text has whole blocks
 abbrev pub has_whole_blocks : Bool → List ℕ → Bool

@@ -1,6 +1,6 @@
 -- The last block of a text: its last one to four characters.
-use Rattle.std.specs.Prelude.{◌≡◌, ℕ, ◌-◌, ◌*◌, ◌/◌, nat_lt, Bool, if◌then◌else◌, List, [], ◌∷◌, slice_index, length, drop}
-use Rattle.base64_alphabet.specs.Group.{End}
+use Rattle.std.specs.Prelude.{◌≡◌, ℕ, ◌-◌, ◌*◌, ◌/◌, nat_lt, if◌then◌else◌, List, [], ◌∷◌, slice_index, length, drop}
+use Rattle.base64_alphabet.specs.Form.{Form}
 use Rattle.base64_alphabet.specs.Encoding.{encoding_of}
 use Rattle.base64_text.specs.Canonical.{IsBytes}
 
@@ -9,8 +9,8 @@ abbrev pub last_at : ℕ → ℕ
 last_at n = 4 * ((n - 1) / 4)
 
 -- the last block is the encoding of some bytes
-abbrev pub HasCanonicalEnd : End → List ℕ → Bool → List ℕ → Type 0
-HasCanonicalEnd end table padded t = (b : List ℕ) × IsBytes b × (drop (last_at (length t)) t ≡ encoding_of end table padded b)
+abbrev pub HasCanonicalEnd : Form → List ℕ → Type 0
+HasCanonicalEnd form t = (b : List ℕ) × IsBytes b × (drop (last_at (length t)) t ≡ encoding_of form b)
 
 -- the first u characters of a block, filled with `A`
 abbrev pub filled : ℕ → List ℕ → List ℕ

@@ -10,6 +10,6 @@ use base64_alphabet::Alphabet;
 /// The decoding of texts that aren't clean, which have passed the tests of their lengths, takes as many
 /// conversions as their length without padding tells, wherever a bad character stands.
 pub fn unclean_texts_take_one_count<E: Alphabet>()
-    ensures { (t u : List ℕ) → is_clean E.table E.PADDED t ≡ false → is_clean E.table E.PADDED u ≡ false
-        → unpadded_len E.PADDED t ≡ unpadded_len E.PADDED u → decode_count E.table E.PADDED t ≡ decode_count E.table E.PADDED u }
+    ensures { (t u : List ℕ) → is_clean E.form.table E.form.padded t ≡ false → is_clean E.form.table E.form.padded u ≡ false
+        → unpadded_len E.form.padded t ≡ unpadded_len E.form.padded u → decode_count E.form.table E.form.padded t ≡ decode_count E.form.table E.form.padded u }
 {}

@@ -25,18 +25,18 @@ pub(crate) fn decode_counting<E: Alphabet, L: Ledger>(
     steps: &mut Steps<L>,
 ) -> Result<usize, Error>
     ensures within { IfOk result (λ n. n ≤ length dst.old) }
-    ensures ok { IfOk result (λ n. src.now ≡ encoding_of E.end E.table E.PADDED (take n dst.new)) }
+    ensures ok { IfOk result (λ n. src.now ≡ encoding_of E.form (take n dst.new)) }
     ensures bytes { IfOk result (λ n. IsBytes (take n dst.new)) }
-    ensures value { (b : List ℕ) → IsBytes b → src.now ≡ encoding_of E.end E.table E.PADDED b
+    ensures value { (b : List ℕ) → IsBytes b → src.now ≡ encoding_of E.form b
         → IfOk result (λ n. take n dst.new ≡ b) }
-    ensures accepted { (b : List ℕ) → IsBytes b → src.now ≡ encoding_of E.end E.table E.PADDED b
+    ensures accepted { (b : List ℕ) → IsBytes b → src.now ≡ encoding_of E.form b
         → length b ≤ length dst.old → IsOkAnd result (λ n. take n dst.new ≡ b) }
     ensures rest { IfOk result (λ n. drop n dst.new ≡ drop n dst.old) }
-    ensures behind { drop (decoded_len (unpadded_len E.PADDED src.now)) dst.new ≡ drop (decoded_len (unpadded_len E.PADDED src.now)) dst.old }
-    ensures untouched { has_lengths E.PADDED src.now (length dst.old) ≡ false → dst.new ≡ dst.old }
-    ensures err { IfErr result (IsDecodeError E.end E.table E.PADDED src.now (length dst.old)) }
+    ensures behind { drop (decoded_len (unpadded_len E.form.padded src.now)) dst.new ≡ drop (decoded_len (unpadded_len E.form.padded src.now)) dst.old }
+    ensures untouched { has_lengths E.form.padded src.now (length dst.old) ≡ false → dst.new ≡ dst.old }
+    ensures err { IfErr result (IsDecodeError E.form src.now (length dst.old)) }
     ensures steps { steps.new ≡ steps.old
-        + (if has_lengths E.PADDED src.now (length dst.old) then decode_count E.table E.PADDED src.now else 0) }
+        + (if has_lengths E.form.padded src.now (length dst.old) then decode_count E.form.table E.form.padded src.now else 0) }
 {
     if !has_whole_blocks(E::PADDED, src) {
         return Err(Error::InvalidEncoding);
@@ -63,8 +63,8 @@ pub(crate) fn decode_counting<E: Alphabet, L: Ledger>(
 // Whether a block is the encoding of one to three bytes.
 fn is_encoding<E: Alphabet, L: Ledger>(block: &[u8], bytes: &[u8], steps: &mut Steps<L>) -> bool
     requires { length bytes.now ≤ 3 }
-    ensures same { (result ≡ true) ↔ (block.now ≡ encoding_of E.end E.table E.PADDED bytes.now) }
-    ensures steps { steps.new ≡ steps.old + encode_count E.PADDED (length bytes.now) }
+    ensures same { (result ≡ true) ↔ (block.now ≡ encoding_of E.form bytes.now) }
+    ensures steps { steps.new ≡ steps.old + encode_count E.form.padded (length bytes.now) }
 {
     let mut text = [0u8; 4];
     let len = encode_into::<E, L>(bytes, &mut text, steps);
@@ -74,16 +74,16 @@ fn is_encoding<E: Alphabet, L: Ledger>(block: &[u8], bytes: &[u8], steps: &mut S
 /// `decode_counting` without a count.
 pub(crate) fn decode_into<E: Alphabet>(src: &[u8], dst: &mut [u8]) -> Result<usize, Error>
     ensures within { IfOk result (λ n. n ≤ length dst.old) }
-    ensures ok { IfOk result (λ n. src.now ≡ encoding_of E.end E.table E.PADDED (take n dst.new)) }
+    ensures ok { IfOk result (λ n. src.now ≡ encoding_of E.form (take n dst.new)) }
     ensures bytes { IfOk result (λ n. IsBytes (take n dst.new)) }
-    ensures value { (b : List ℕ) → IsBytes b → src.now ≡ encoding_of E.end E.table E.PADDED b
+    ensures value { (b : List ℕ) → IsBytes b → src.now ≡ encoding_of E.form b
         → IfOk result (λ n. take n dst.new ≡ b) }
-    ensures accepted { (b : List ℕ) → IsBytes b → src.now ≡ encoding_of E.end E.table E.PADDED b
+    ensures accepted { (b : List ℕ) → IsBytes b → src.now ≡ encoding_of E.form b
         → length b ≤ length dst.old → IsOkAnd result (λ n. take n dst.new ≡ b) }
     ensures rest { IfOk result (λ n. drop n dst.new ≡ drop n dst.old) }
-    ensures behind { drop (decoded_len (unpadded_len E.PADDED src.now)) dst.new ≡ drop (decoded_len (unpadded_len E.PADDED src.now)) dst.old }
-    ensures untouched { has_lengths E.PADDED src.now (length dst.old) ≡ false → dst.new ≡ dst.old }
-    ensures err { IfErr result (IsDecodeError E.end E.table E.PADDED src.now (length dst.old)) }
+    ensures behind { drop (decoded_len (unpadded_len E.form.padded src.now)) dst.new ≡ drop (decoded_len (unpadded_len E.form.padded src.now)) dst.old }
+    ensures untouched { has_lengths E.form.padded src.now (length dst.old) ≡ false → dst.new ≡ dst.old }
+    ensures err { IfErr result (IsDecodeError E.form src.now (length dst.old)) }
 {
     decode_from::<E, Brand>(src, dst, Blank::new(1))
 }
@@ -97,16 +97,16 @@ fn decode_from<E: Alphabet, L: Ledger>(
     requires parts { blank.parts ≡ L.parts }
     requires share { 0 < blank.parts }
     ensures within { IfOk result (λ n. n ≤ length dst.old) }
-    ensures ok { IfOk result (λ n. src.now ≡ encoding_of E.end E.table E.PADDED (take n dst.new)) }
+    ensures ok { IfOk result (λ n. src.now ≡ encoding_of E.form (take n dst.new)) }
     ensures bytes { IfOk result (λ n. IsBytes (take n dst.new)) }
-    ensures value { (b : List ℕ) → IsBytes b → src.now ≡ encoding_of E.end E.table E.PADDED b
+    ensures value { (b : List ℕ) → IsBytes b → src.now ≡ encoding_of E.form b
         → IfOk result (λ n. take n dst.new ≡ b) }
-    ensures accepted { (b : List ℕ) → IsBytes b → src.now ≡ encoding_of E.end E.table E.PADDED b
+    ensures accepted { (b : List ℕ) → IsBytes b → src.now ≡ encoding_of E.form b
         → length b ≤ length dst.old → IsOkAnd result (λ n. take n dst.new ≡ b) }
     ensures rest { IfOk result (λ n. drop n dst.new ≡ drop n dst.old) }
-    ensures behind { drop (decoded_len (unpadded_len E.PADDED src.now)) dst.new ≡ drop (decoded_len (unpadded_len E.PADDED src.now)) dst.old }
-    ensures untouched { has_lengths E.PADDED src.now (length dst.old) ≡ false → dst.new ≡ dst.old }
-    ensures err { IfErr result (IsDecodeError E.end E.table E.PADDED src.now (length dst.old)) }
+    ensures behind { drop (decoded_len (unpadded_len E.form.padded src.now)) dst.new ≡ drop (decoded_len (unpadded_len E.form.padded src.now)) dst.old }
+    ensures untouched { has_lengths E.form.padded src.now (length dst.old) ≡ false → dst.new ≡ dst.old }
+    ensures err { IfErr result (IsDecodeError E.form src.now (length dst.old)) }
 {
     let mut steps = Steps::<L>::new(blank);
     decode_counting::<E, L>(src, dst, &mut steps)
@@ -114,11 +114,11 @@ fn decode_from<E: Alphabet, L: Ledger>(
 
 /// Decodes a text into a vector.
 pub(crate) fn decode_to_vec<E: Alphabet>(alloc: Global, src: &[u8]) -> Result<Vec<u8>, Error>
-    ensures ok { IfOk result (λ v. src.now ≡ encoding_of E.end E.table E.PADDED v.items) }
+    ensures ok { IfOk result (λ v. src.now ≡ encoding_of E.form v.items) }
     ensures bytes { IfOk result (λ v. IsBytes v.items) }
-    ensures value { (b : List ℕ) → IsBytes b → src.now ≡ encoding_of E.end E.table E.PADDED b
+    ensures value { (b : List ℕ) → IsBytes b → src.now ≡ encoding_of E.form b
         → IfOk result (λ v. v.items ≡ b) }
-    ensures err { IfErr result (IsDecodeVecError E.end E.table E.PADDED src.now) }
+    ensures err { IfErr result (IsDecodeVecError E.form src.now) }
 {
     let u = src.len();
     let mut bytes = vec![in alloc; 0u8; 3 * (u / 4) + 3 * (u % 4) / 4]?;
@@ -135,9 +135,9 @@ pub(crate) fn decode_to_vec<E: Alphabet>(alloc: Global, src: &[u8]) -> Result<Ve
 pub fn decode_front<E: Alphabet>(src: &[u8], dst: &mut [u8]) -> bool
     requires whole { length src.now % 4 ≡ 0 }
     requires room { 3 * (length src.now / 4) ≤ length dst.old }
-    ensures answer { result ≡ all_in E.table src.now }
-    ensures written { all_in E.table src.now ≡ true →
-        dst.new ≡ bytes_of_blocks E.end E.table src.now ++ drop (3 * (length src.now / 4)) dst.old }
+    ensures answer { result ≡ all_in E.form.table src.now }
+    ensures written { all_in E.form.table src.now ≡ true →
+        dst.new ≡ bytes_of_blocks E.form.end E.form.table src.now ++ drop (3 * (length src.now / 4)) dst.old }
 {
     front_counted::<E, Brand>(src, dst, Blank::new(1))
 }
@@ -148,9 +148,9 @@ fn front_counted<E: Alphabet, L: Ledger>(src: &[u8], dst: &mut [u8], blank: Blan
     requires share { 0 < blank.parts }
     requires whole { length src.now % 4 ≡ 0 }
     requires room { 3 * (length src.now / 4) ≤ length dst.old }
-    ensures answer { result ≡ all_in E.table src.now }
-    ensures written { all_in E.table src.now ≡ true →
-        dst.new ≡ bytes_of_blocks E.end E.table src.now ++ drop (3 * (length src.now / 4)) dst.old }
+    ensures answer { result ≡ all_in E.form.table src.now }
+    ensures written { all_in E.form.table src.now ≡ true →
+        dst.new ≡ bytes_of_blocks E.form.end E.form.table src.now ++ drop (3 * (length src.now / 4)) dst.old }
 {
     let mut steps = Steps::<L>::new(blank);
     decode_blocks::<E, L>(src, dst, &mut steps)

@@ -19,11 +19,11 @@ pub(crate) fn encode_into<E: Alphabet, L: Ledger>(
     dst: &mut [u8],
     steps: &mut Steps<L>,
 ) -> usize
-    requires room { encoded_len E.PADDED (length src.now) ≤ length dst.old }
-    ensures len { result ≡ encoded_len E.PADDED (length src.now) }
-    ensures text { take result dst.new ≡ encoding_of E.end E.table E.PADDED src.now }
+    requires room { encoded_len E.form.padded (length src.now) ≤ length dst.old }
+    ensures len { result ≡ encoded_len E.form.padded (length src.now) }
+    ensures text { take result dst.new ≡ encoding_of E.form src.now }
     ensures rest { drop result dst.new ≡ drop result dst.old }
-    ensures steps { steps.new ≡ steps.old + encode_count E.PADDED (length src.now) }
+    ensures steps { steps.new ≡ steps.old + encode_count E.form.padded (length src.now) }
 {
     let groups = src.len() / 3;
     encode_blocks::<E, L>(&src[..3 * groups], dst, steps);
@@ -39,12 +39,12 @@ pub(crate) fn encode_fitting<E: Alphabet, L: Ledger>(
     steps: &mut Steps<L>,
 ) -> Option<usize>
     ensures within { IfSome result (λ n. n ≤ length dst.old) }
-    ensures text { IfSome result (λ n. take n dst.new ≡ encoding_of E.end E.table E.PADDED src.now) }
+    ensures text { IfSome result (λ n. take n dst.new ≡ encoding_of E.form src.now) }
     ensures rest { IfSome result (λ n. drop n dst.new ≡ drop n dst.old) }
     ensures same { IfNone result (dst.new ≡ dst.old) }
     ensures ascii { IfSome result (λ n. IsAscii (take n dst.new)) }
-    ensures fits { IsSome result ↔ ((4 * length src.now < 2 ^ 64) × (encoded_len E.PADDED (length src.now) ≤ length dst.old)) }
-    ensures steps { steps.new ≡ steps.old + (if is_some result then encode_count E.PADDED (length src.now) else 0) }
+    ensures fits { IsSome result ↔ ((4 * length src.now < 2 ^ 64) × (encoded_len E.form.padded (length src.now) ≤ length dst.old)) }
+    ensures steps { steps.new ≡ steps.old + (if is_some result then encode_count E.form.padded (length src.now) else 0) }
 {
     let len = encoded_length(src.len(), E::PADDED)?;
     if dst.len() < len {
@@ -56,11 +56,11 @@ pub(crate) fn encode_fitting<E: Alphabet, L: Ledger>(
 /// `encode_fitting` without a count.
 pub(crate) fn encode_plainly<E: Alphabet>(src: &[u8], dst: &mut [u8]) -> Option<usize>
     ensures within { IfSome result (λ n. n ≤ length dst.old) }
-    ensures text { IfSome result (λ n. take n dst.new ≡ encoding_of E.end E.table E.PADDED src.now) }
+    ensures text { IfSome result (λ n. take n dst.new ≡ encoding_of E.form src.now) }
     ensures rest { IfSome result (λ n. drop n dst.new ≡ drop n dst.old) }
     ensures same { IfNone result (dst.new ≡ dst.old) }
     ensures ascii { IfSome result (λ n. IsAscii (take n dst.new)) }
-    ensures fits { IsSome result ↔ ((4 * length src.now < 2 ^ 64) × (encoded_len E.PADDED (length src.now) ≤ length dst.old)) }
+    ensures fits { IsSome result ↔ ((4 * length src.now < 2 ^ 64) × (encoded_len E.form.padded (length src.now) ≤ length dst.old)) }
 {
     encode_from::<E, Brand>(src, dst, Blank::new(1))
 }
@@ -70,11 +70,11 @@ fn encode_from<E: Alphabet, L: Ledger>(src: &[u8], dst: &mut [u8], blank: Blank)
     requires parts { blank.parts ≡ L.parts }
     requires share { 0 < blank.parts }
     ensures within { IfSome result (λ n. n ≤ length dst.old) }
-    ensures text { IfSome result (λ n. take n dst.new ≡ encoding_of E.end E.table E.PADDED src.now) }
+    ensures text { IfSome result (λ n. take n dst.new ≡ encoding_of E.form src.now) }
     ensures rest { IfSome result (λ n. drop n dst.new ≡ drop n dst.old) }
     ensures same { IfNone result (dst.new ≡ dst.old) }
     ensures ascii { IfSome result (λ n. IsAscii (take n dst.new)) }
-    ensures fits { IsSome result ↔ ((4 * length src.now < 2 ^ 64) × (encoded_len E.PADDED (length src.now) ≤ length dst.old)) }
+    ensures fits { IsSome result ↔ ((4 * length src.now < 2 ^ 64) × (encoded_len E.form.padded (length src.now) ≤ length dst.old)) }
 {
     let mut steps = Steps::<L>::new(blank);
     encode_fitting::<E, L>(src, dst, &mut steps)
@@ -82,9 +82,9 @@ fn encode_from<E: Alphabet, L: Ledger>(src: &[u8], dst: &mut [u8], blank: Blank)
 
 /// `encode_into` without a count.
 pub fn encode_front<E: Alphabet>(src: &[u8], dst: &mut [u8]) -> usize
-    requires room { encoded_len E.PADDED (length src.now) ≤ length dst.old }
-    ensures len { result ≡ encoded_len E.PADDED (length src.now) }
-    ensures text { take result dst.new ≡ encoding_of E.end E.table E.PADDED src.now }
+    requires room { encoded_len E.form.padded (length src.now) ≤ length dst.old }
+    ensures len { result ≡ encoded_len E.form.padded (length src.now) }
+    ensures text { take result dst.new ≡ encoding_of E.form src.now }
 {
     front_from::<E, Brand>(src, dst, Blank::new(1))
 }
@@ -93,9 +93,9 @@ fn front_from<E: Alphabet, L: Ledger>(src: &[u8], dst: &mut [u8], blank: Blank) 
     requires name { blank.name ≡ L.name }
     requires parts { blank.parts ≡ L.parts }
     requires share { 0 < blank.parts }
-    requires room { encoded_len E.PADDED (length src.now) ≤ length dst.old }
-    ensures len { result ≡ encoded_len E.PADDED (length src.now) }
-    ensures text { take result dst.new ≡ encoding_of E.end E.table E.PADDED src.now }
+    requires room { encoded_len E.form.padded (length src.now) ≤ length dst.old }
+    ensures len { result ≡ encoded_len E.form.padded (length src.now) }
+    ensures text { take result dst.new ≡ encoding_of E.form src.now }
 {
     let mut steps = Steps::<L>::new(blank);
     encode_into::<E, L>(src, dst, &mut steps)
@@ -111,7 +111,7 @@ pub fn ascii_text(bytes: &[u8]) -> &str
 
 /// Encodes bytes into a text.
 pub(crate) fn encode_to_string<E: Alphabet>(alloc: Global, input: &[u8]) -> Result<String, Error>
-    ensures ok { IfOk result (λ text. string_bytes text ≡ encoding_of E.end E.table E.PADDED input.now) }
+    ensures ok { IfOk result (λ text. string_bytes text ≡ encoding_of E.form input.now) }
     ensures err { IfErr result (IsEncodeStringError (length input.now)) }
     ensures too_long { (result ≡ Err Error.InvalidLength) ↔ (2 ^ 64 ≤ 4 * length input.now) }
 {
@@ -139,9 +139,9 @@ fn ascii_string(bytes: Vec<u8>) -> String
 // The encoding of up to two bytes, and its length.
 fn encode_rest<E: Alphabet, L: Ledger>(rest: &[u8], steps: &mut Steps<L>) -> ([u8; 4], usize)
     requires { length rest.now ≤ 2 }
-    ensures text { take result.1 result.0 ≡ encoding_of E.end E.table E.PADDED rest.now }
-    ensures len { result.1 ≡ encoded_len E.PADDED (length rest.now) }
-    ensures steps { steps.new ≡ steps.old + encode_count E.PADDED (length rest.now) }
+    ensures text { take result.1 result.0 ≡ encoding_of E.form rest.now }
+    ensures len { result.1 ≡ encoded_len E.form.padded (length rest.now) }
+    ensures steps { steps.new ≡ steps.old + encode_count E.form.padded (length rest.now) }
 {
     let mut text = [b'='; 4];
     match rest {

@@ -18,7 +18,7 @@ use base64_alphabet::{Alphabet, Steps};
 use std::alloc::Global;
 use std::sync::ledger::Ledger;
 
-/// Whole texts of an alphabet. It is implemented for every `Alphabet`, and must be imported to call
+/// Whole texts of an alphabet (RFC 4648 section 4). It is implemented for every `Alphabet`, and must be imported to call
 /// `Base64::encode_string` and its kin.
 ///
 /// A text is decoded only if it is canonical (RFC 4648 section 3.5): there is one text for each list of
@@ -33,11 +33,11 @@ pub trait Encoding: Alphabet {
     /// blocks (`InvalidEncoding`), the output has room for what the text's length tells (`InvalidLength`),
     /// the text is an encoding (`InvalidEncoding`).
     fn decode<'o>(src: &[u8], dst: &'o mut [u8]) -> Result<&'o [u8], Error>
-        ensures ok { IfOk result (λ bytes. src.now ≡ encoding_of Self.end Self.table Self.PADDED bytes.now) }
+        ensures ok { IfOk result (λ bytes. src.now ≡ encoding_of Self.form bytes.now) }
         ensures bytes { IfOk result (λ bytes. IsBytes bytes.now) }
-        ensures accepted { (b : List ℕ) → IsBytes b → src.now ≡ encoding_of Self.end Self.table Self.PADDED b
+        ensures accepted { (b : List ℕ) → IsBytes b → src.now ≡ encoding_of Self.form b
             → length b ≤ length dst.old → IsOkAnd result (λ bytes. bytes.now ≡ b) }
-        ensures err { IfErr result (IsDecodeError Self.end Self.table Self.PADDED src.now (length dst.old)) }
+        ensures err { IfErr result (IsDecodeError Self.form src.now (length dst.old)) }
     {
         match decode_into::<Self>(src, dst) {
             Ok(n) => Ok(&dst[..n]),
@@ -46,29 +46,30 @@ pub trait Encoding: Alphabet {
     }
 
     /// `decode`, which answers the number of bytes in place of the part, and tells what the output ends as: behind
-    /// the bytes it is as it was. A refusal leaves what stands behind the room that the text's length tells, and
-    /// where a test of lengths fails it leaves all.
+    /// the bytes it is as it was. It errs where `decode` does. A refusal leaves what stands behind the room that the
+    /// text's length tells, and where a test of lengths fails it leaves all.
     fn decode_into(src: &[u8], dst: &mut [u8]) -> Result<usize, Error>
         ensures within { IfOk result (λ n. n ≤ length dst.old) }
-        ensures ok { IfOk result (λ n. src.now ≡ encoding_of Self.end Self.table Self.PADDED (take n dst.new)) }
+        ensures ok { IfOk result (λ n. src.now ≡ encoding_of Self.form (take n dst.new)) }
         ensures bytes { IfOk result (λ n. IsBytes (take n dst.new)) }
         ensures rest { IfOk result (λ n. drop n dst.new ≡ drop n dst.old) }
-        ensures accepted { (b : List ℕ) → IsBytes b → src.now ≡ encoding_of Self.end Self.table Self.PADDED b
+        ensures accepted { (b : List ℕ) → IsBytes b → src.now ≡ encoding_of Self.form b
             → length b ≤ length dst.old → IsOkAnd result (λ n. take n dst.new ≡ b) }
-        ensures err { IfErr result (IsDecodeError Self.end Self.table Self.PADDED src.now (length dst.old)) }
-        ensures behind { drop (decoded_len (unpadded_len Self.PADDED src.now)) dst.new
-            ≡ drop (decoded_len (unpadded_len Self.PADDED src.now)) dst.old }
-        ensures untouched { has_lengths Self.PADDED src.now (length dst.old) ≡ false → dst.new ≡ dst.old }
+        ensures err { IfErr result (IsDecodeError Self.form src.now (length dst.old)) }
+        ensures behind { drop (decoded_len (unpadded_len Self.form.padded src.now)) dst.new
+            ≡ drop (decoded_len (unpadded_len Self.form.padded src.now)) dst.old }
+        ensures untouched { has_lengths Self.form.padded src.now (length dst.old) ≡ false → dst.new ≡ dst.old }
     {
         decode_into::<Self>(src, dst)
     }
 
     /// Decodes a text to the front of its own buffer, and answers that part. Bits after the last byte may have
-    /// any value, so several texts give the same bytes: take `decode` where that matters. It errs where a character
-    /// isn't in the table, padding stands elsewhere than at the end, or the length is that of no text.
+    /// any value, so several texts give the same bytes: take `decode` where that matters (RFC 4648 section 3.5).
+    /// `InvalidEncodingError` tells that a character isn't in the table, that padding stands elsewhere than at the
+    /// end, or that the length is that of no text.
     fn decode_in_place(buf: &mut [u8]) -> Result<&[u8], InvalidEncodingError>
-        ensures bytes { IfOk result (λ bytes. bytes.now ≡ loose_bytes Self.end Self.table Self.PADDED buf.old) }
-        ensures clean { IsOk result ↔ (is_clean Self.table Self.PADDED buf.old ≡ true) }
+        ensures bytes { IfOk result (λ bytes. bytes.now ≡ loose_bytes Self.form buf.old) }
+        ensures clean { IsOk result ↔ (is_clean Self.form.table Self.form.padded buf.old ≡ true) }
     {
         match decode_over_plainly::<Self>(buf) {
             Some(n) => Ok(&buf[..n]),
@@ -76,23 +77,25 @@ pub trait Encoding: Alphabet {
         }
     }
 
-    /// Decodes a text into a vector of its own. `InvalidEncoding` tells that the text is no encoding.
+    /// Decodes a text into a vector of its own. `InvalidEncoding` tells that the text is no encoding; a text is
+    /// never refused for its length.
     fn decode_vec(alloc: Global, input: &str) -> Result<Vec<u8>, Error>
-        ensures ok { IfOk result (λ v. input.now ≡ encoding_of Self.end Self.table Self.PADDED v.items) }
+        ensures ok { IfOk result (λ v. input.now ≡ encoding_of Self.form v.items) }
         ensures bytes { IfOk result (λ v. IsBytes v.items) }
-        ensures value { (b : List ℕ) → IsBytes b → input.now ≡ encoding_of Self.end Self.table Self.PADDED b
+        ensures value { (b : List ℕ) → IsBytes b → input.now ≡ encoding_of Self.form b
             → IfOk result (λ v. v.items ≡ b) }
-        ensures err { IfErr result (IsDecodeVecError Self.end Self.table Self.PADDED input.now) }
+        ensures err { IfErr result (IsDecodeVecError Self.form input.now) }
     {
         decode_to_vec::<Self>(alloc, input.as_bytes())
     }
 
-    /// Writes the encoding to the front of an output, and answers that part as a text. It errs where the output is
-    /// shorter than the text, whose length `encoded_len` tells, or four times the number of bytes exceeds `usize`.
+    /// Writes the encoding to the front of an output, and answers that part as a text. `InvalidLengthError` tells
+    /// that the output is shorter than the text, whose length `encoded_len` tells, or that four times the number of
+    /// bytes exceeds `usize`.
     fn encode<'a>(src: &[u8], dst: &'a mut [u8]) -> Result<&'a str, InvalidLengthError>
-        ensures text { IfOk result (λ text. text.now ≡ encoding_of Self.end Self.table Self.PADDED src.now) }
+        ensures text { IfOk result (λ text. text.now ≡ encoding_of Self.form src.now) }
         ensures fits { IsOk result ↔ ((4 * length src.now < 2 ^ 64)
-            × (length (encoding_of Self.end Self.table Self.PADDED src.now) ≤ length dst.old)) }
+            × (length (encoding_of Self.form src.now) ≤ length dst.old)) }
     {
         match encode_plainly::<Self>(src, dst) {
             Some(n) => Ok(ascii_text(&dst[..n])),
@@ -101,13 +104,13 @@ pub trait Encoding: Alphabet {
     }
 
     /// `encode`, which answers the length of the text in place of the text, and tells what the output ends as:
-    /// behind the text it is as it was, and after a refusal all of it.
+    /// behind the text it is as it was, and after a refusal all of it. It errs where `encode` does.
     fn encode_into(src: &[u8], dst: &mut [u8]) -> Result<usize, InvalidLengthError>
         ensures within { IfOk result (λ n. n ≤ length dst.old) }
-        ensures text { IfOk result (λ n. take n dst.new ≡ encoding_of Self.end Self.table Self.PADDED src.now) }
+        ensures text { IfOk result (λ n. take n dst.new ≡ encoding_of Self.form src.now) }
         ensures rest { IfOk result (λ n. drop n dst.new ≡ drop n dst.old) }
         ensures fits { IsOk result ↔ ((4 * length src.now < 2 ^ 64)
-            × (length (encoding_of Self.end Self.table Self.PADDED src.now) ≤ length dst.old)) }
+            × (length (encoding_of Self.form src.now) ≤ length dst.old)) }
         ensures same { OnErr result (dst.new ≡ dst.old) }
     {
         match encode_plainly::<Self>(src, dst) {
@@ -119,8 +122,8 @@ pub trait Encoding: Alphabet {
     /// Encodes bytes into a text of its own. `InvalidLength` tells that there are too many: four times their
     /// number exceeds `usize`.
     fn encode_string(alloc: Global, input: &[u8]) -> Result<String, Error>
-        ensures ok { IfOk result (λ text. string_bytes text ≡ encoding_of Self.end Self.table Self.PADDED input.now) }
-        ensures len { IfOk result (λ text. length (string_bytes text) ≡ len_of Self.PADDED (length input.now)) }
+        ensures ok { IfOk result (λ text. string_bytes text ≡ encoding_of Self.form input.now) }
+        ensures len { IfOk result (λ text. length (string_bytes text) ≡ len_of Self.form.padded (length input.now)) }
         ensures err { IfErr result (IsEncodeStringError (length input.now)) }
         ensures too_long { (result ≡ Err Error.InvalidLength) ↔ (2 ^ 64 ≤ 4 * length input.now) }
     {
@@ -129,7 +132,7 @@ pub trait Encoding: Alphabet {
 
     /// The length of the encoding. It answers 0 where four times the number of bytes exceeds `usize`.
     fn encoded_len(bytes: &[u8]) -> usize
-        ensures { result ≡ (if nat_lt (4 * length bytes.now) (2 ^ 64) then length (encoding_of Self.end Self.table Self.PADDED bytes.now) else 0) }
+        ensures { result ≡ (if nat_lt (4 * length bytes.now) (2 ^ 64) then length (encoding_of Self.form bytes.now) else 0) }
     {
         match encoded_length(bytes.len(), Self::PADDED) {
             Some(len) => len,
@@ -143,13 +146,13 @@ pub trait Encoding: Alphabet {
         dst: &'o mut [u8],
         steps: &mut Steps<L>,
     ) -> Result<&'o [u8], Error>
-        ensures ok { IfOk result (λ bytes. src.now ≡ encoding_of Self.end Self.table Self.PADDED bytes.now) }
+        ensures ok { IfOk result (λ bytes. src.now ≡ encoding_of Self.form bytes.now) }
         ensures bytes { IfOk result (λ bytes. IsBytes bytes.now) }
-        ensures accepted { (b : List ℕ) → IsBytes b → src.now ≡ encoding_of Self.end Self.table Self.PADDED b
+        ensures accepted { (b : List ℕ) → IsBytes b → src.now ≡ encoding_of Self.form b
             → length b ≤ length dst.old → IsOkAnd result (λ bytes. bytes.now ≡ b) }
-        ensures err { IfErr result (IsDecodeError Self.end Self.table Self.PADDED src.now (length dst.old)) }
+        ensures err { IfErr result (IsDecodeError Self.form src.now (length dst.old)) }
         ensures steps { steps.new ≡ steps.old
-            + (if has_lengths Self.PADDED src.now (length dst.old) then decode_count Self.table Self.PADDED src.now else 0) }
+            + (if has_lengths Self.form.padded src.now (length dst.old) then decode_count Self.form.table Self.form.padded src.now else 0) }
     {
         match decode_counting::<Self, L>(src, dst, steps) {
             Ok(n) => Ok(&dst[..n]),
@@ -163,10 +166,10 @@ pub trait Encoding: Alphabet {
         dst: &'a mut [u8],
         steps: &mut Steps<L>,
     ) -> Result<&'a str, InvalidLengthError>
-        ensures text { IfOk result (λ text. text.now ≡ encoding_of Self.end Self.table Self.PADDED src.now) }
+        ensures text { IfOk result (λ text. text.now ≡ encoding_of Self.form src.now) }
         ensures fits { IsOk result ↔ ((4 * length src.now < 2 ^ 64)
-            × (length (encoding_of Self.end Self.table Self.PADDED src.now) ≤ length dst.old)) }
-        ensures steps { steps.new ≡ steps.old + (if is_ok result then encode_count Self.PADDED (length src.now) else 0) }
+            × (length (encoding_of Self.form src.now) ≤ length dst.old)) }
+        ensures steps { steps.new ≡ steps.old + (if is_ok result then encode_count Self.form.padded (length src.now) else 0) }
     {
         match encode_fitting::<Self, L>(src, dst, steps) {
             Some(n) => Ok(ascii_text(&dst[..n])),
@@ -179,10 +182,10 @@ pub trait Encoding: Alphabet {
         buf: &'b mut [u8],
         steps: &mut Steps<L>,
     ) -> Result<&'b [u8], InvalidEncodingError>
-        ensures bytes { IfOk result (λ bytes. bytes.now ≡ loose_bytes Self.end Self.table Self.PADDED buf.old) }
-        ensures clean { IsOk result ↔ (is_clean Self.table Self.PADDED buf.old ≡ true) }
+        ensures bytes { IfOk result (λ bytes. bytes.now ≡ loose_bytes Self.form buf.old) }
+        ensures clean { IsOk result ↔ (is_clean Self.form.table Self.form.padded buf.old ≡ true) }
         ensures steps { steps.new ≡ steps.old
-            + (if has_whole_blocks Self.PADDED buf.old then loose_count (unpadded_len Self.PADDED buf.old) else 0) }
+            + (if has_whole_blocks Self.form.padded buf.old then loose_count (unpadded_len Self.form.padded buf.old) else 0) }
     {
         match decode_over::<Self, L>(buf, steps) {
             Some(n) => Ok(&buf[..n]),

@@ -20,10 +20,10 @@ pub(crate) fn decode_over<E: Alphabet, L: Ledger>(
     steps: &mut Steps<L>,
 ) -> Option<usize>
     ensures within { IfSome result (λ n. n ≤ length buf.old) }
-    ensures bytes { IfSome result (λ n. take n buf.new ≡ loose_bytes E.end E.table E.PADDED buf.old) }
-    ensures clean { IsSome result ↔ (is_clean E.table E.PADDED buf.old ≡ true) }
+    ensures bytes { IfSome result (λ n. take n buf.new ≡ loose_bytes E.form buf.old) }
+    ensures clean { IsSome result ↔ (is_clean E.form.table E.form.padded buf.old ≡ true) }
     ensures steps { steps.new ≡ steps.old
-        + (if has_whole_blocks E.PADDED buf.old then loose_count (unpadded_len E.PADDED buf.old) else 0) }
+        + (if has_whole_blocks E.form.padded buf.old then loose_count (unpadded_len E.form.padded buf.old) else 0) }
 {
     if !decode_text::has_whole_blocks(E::PADDED, buf) {
         return None;
@@ -50,9 +50,9 @@ fn decode_blocks_over<E: Alphabet, L: Ledger>(
     steps: &mut Steps<L>,
 ) -> bool
     requires { 4 * blocks ≤ length buf.old }
-    ensures answer { result ≡ all_in E.table (take (4 * blocks) buf.old) }
-    ensures written { all_in E.table (take (4 * blocks) buf.old) ≡ true →
-        take (3 * blocks) buf.new ≡ bytes_of_blocks E.end E.table (take (4 * blocks) buf.old) }
+    ensures answer { result ≡ all_in E.form.table (take (4 * blocks) buf.old) }
+    ensures written { all_in E.form.table (take (4 * blocks) buf.old) ≡ true →
+        take (3 * blocks) buf.new ≡ bytes_of_blocks E.form.end E.form.table (take (4 * blocks) buf.old) }
     ensures rest { drop (4 * blocks) buf.new ≡ drop (4 * blocks) buf.old }
     ensures steps { steps.new ≡ steps.old + 4 * blocks }
 {
@@ -76,9 +76,9 @@ fn decode_part_over<E: Alphabet, L: Ledger>(
 ) -> bool
     requires few { count ≤ 32 }
     requires within { 4 * (done + count) ≤ length buf.old }
-    ensures answer { result ≡ all_in E.table (take (4 * count) (drop (4 * done) buf.old)) }
+    ensures answer { result ≡ all_in E.form.table (take (4 * count) (drop (4 * done) buf.old)) }
     ensures written { result ≡ true → take (3 * (done + count)) buf.new
-        ≡ take (3 * done) buf.old ++ bytes_of_blocks E.end E.table (take (4 * count) (drop (4 * done) buf.old)) }
+        ≡ take (3 * done) buf.old ++ bytes_of_blocks E.form.end E.form.table (take (4 * count) (drop (4 * done) buf.old)) }
     ensures rest { drop (4 * (done + count)) buf.new ≡ drop (4 * (done + count)) buf.old }
     ensures steps { steps.new ≡ steps.old + 4 * count }
 {
@@ -91,8 +91,8 @@ fn decode_part_over<E: Alphabet, L: Ledger>(
 /// `decode_over` without a count.
 pub(crate) fn decode_over_plainly<E: Alphabet>(buf: &mut [u8]) -> Option<usize>
     ensures within { IfSome result (λ n. n ≤ length buf.old) }
-    ensures bytes { IfSome result (λ n. take n buf.new ≡ loose_bytes E.end E.table E.PADDED buf.old) }
-    ensures clean { IsSome result ↔ (is_clean E.table E.PADDED buf.old ≡ true) }
+    ensures bytes { IfSome result (λ n. take n buf.new ≡ loose_bytes E.form buf.old) }
+    ensures clean { IsSome result ↔ (is_clean E.form.table E.form.padded buf.old ≡ true) }
 {
     decode_over_from::<E, Brand>(buf, Blank::new(1))
 }
@@ -102,8 +102,8 @@ fn decode_over_from<E: Alphabet, L: Ledger>(buf: &mut [u8], blank: Blank) -> Opt
     requires parts { blank.parts ≡ L.parts }
     requires share { 0 < blank.parts }
     ensures within { IfSome result (λ n. n ≤ length buf.old) }
-    ensures bytes { IfSome result (λ n. take n buf.new ≡ loose_bytes E.end E.table E.PADDED buf.old) }
-    ensures clean { IsSome result ↔ (is_clean E.table E.PADDED buf.old ≡ true) }
+    ensures bytes { IfSome result (λ n. take n buf.new ≡ loose_bytes E.form buf.old) }
+    ensures clean { IsSome result ↔ (is_clean E.form.table E.form.padded buf.old ≡ true) }
 {
     let mut steps = Steps::<L>::new(blank);
     decode_over::<E, L>(buf, &mut steps)

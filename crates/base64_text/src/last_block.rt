@@ -12,15 +12,16 @@ use std::marker::Brand;
 use std::sync::ledger::{Blank, Ledger};
 
 /// The bytes whose encoding is the block, at the front of `out`, and how many they are. The decoded bytes
-/// are encoded again and compared, so that padding and trailing bits are checked with the characters.
+/// are encoded again and compared, so that padding and trailing bits are checked with the characters. `None` tells
+/// that the block is the encoding of no bytes.
 pub fn decode_last<E: Alphabet>(last: &[u8], out: &mut [u8; 3]) -> Option<usize>
     requires some { 1 ≤ length last.now }
     requires few { length last.now ≤ 4 }
-    ensures some { IfSome result (λ k. last.now ≡ encoding_of E.end E.table E.PADDED (take k out.new)) }
-    ensures size { IfSome result (λ k. k ≡ 3 * unpadded_len E.PADDED last.now / 4) }
+    ensures some { IfSome result (λ k. last.now ≡ encoding_of E.form (take k out.new)) }
+    ensures size { IfSome result (λ k. k ≡ 3 * unpadded_len E.form.padded last.now / 4) }
     ensures bytes { IfSome result (λ k. IsBytes (take k out.new)) }
     ensures most { IfSome result (λ k. k ≤ 3) }
-    ensures none { IfNone result (IsNoEncoding E.end E.table E.PADDED last.now) }
+    ensures none { IfNone result (IsNoEncoding E.form last.now) }
 {
     if last.len() < 2 {
         return None;
@@ -45,7 +46,7 @@ fn encode_few<E: Alphabet, L: Ledger>(bytes: &[u8], blank: Blank) -> ([u8; 4], u
     requires parts { blank.parts ≡ L.parts }
     requires share { 0 < blank.parts }
     requires few { length bytes.now ≤ 3 }
-    ensures text { take result.1 result.0 ≡ encoding_of E.end E.table E.PADDED bytes.now }
+    ensures text { take result.1 result.0 ≡ encoding_of E.form bytes.now }
     ensures len { result.1 ≤ 4 }
 {
     let mut steps = Steps::<L>::new(blank);

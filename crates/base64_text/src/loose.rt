@@ -18,12 +18,12 @@ pub(crate) fn decode_loose<E: Alphabet, L: Ledger>(
     dst: &mut [u8],
     steps: &mut Steps<L>,
 ) -> bool
-    requires whole { HasWholeBlocks E.PADDED src.now }
-    requires unpadded { u ≡ unpadded_len E.PADDED src.now }
+    requires whole { HasWholeBlocks E.form.padded src.now }
+    requires unpadded { u ≡ unpadded_len E.form.padded src.now }
     requires room { decoded_len u ≤ length dst.old }
-    ensures clean { result ≡ is_clean E.table E.PADDED src.now }
-    ensures written { is_clean E.table E.PADDED src.now ≡ true
-        → take (decoded_len u) dst.new ≡ loose_bytes E.end E.table E.PADDED src.now }
+    ensures clean { result ≡ is_clean E.form.table E.form.padded src.now }
+    ensures written { is_clean E.form.table E.form.padded src.now ≡ true
+        → take (decoded_len u) dst.new ≡ loose_bytes E.form src.now }
     ensures rest { drop (decoded_len u) dst.new ≡ drop (decoded_len u) dst.old }
     ensures steps { steps.new ≡ steps.old + loose_count u }
 {
@@ -42,9 +42,9 @@ pub(crate) fn decode_rest<E: Alphabet, L: Ledger>(
     steps: &mut Steps<L>,
 ) -> ([u8; 3], bool)
     requires { length rest.now ≤ 3 }
-    ensures good { result.1 ≡ (all_in E.table rest.now && not (length rest.now == 1)) }
-    ensures written { all_in E.table rest.now ≡ true → take (3 * length rest.now / 4) result.0
-        ≡ take (3 * length rest.now / 4) (bytes_of_blocks E.end E.table (rest.now ++ replicate (4 - length rest.now) 65)) }
+    ensures good { result.1 ≡ (all_in E.form.table rest.now && not (length rest.now == 1)) }
+    ensures written { all_in E.form.table rest.now ≡ true → take (3 * length rest.now / 4) result.0
+        ≡ take (3 * length rest.now / 4) (bytes_of_blocks E.form.end E.form.table (rest.now ++ replicate (4 - length rest.now) 65)) }
     ensures steps { steps.new ≡ steps.old + 4 }
 {
     let block = filled(rest);

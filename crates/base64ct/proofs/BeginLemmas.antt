@@ -2,6 +2,7 @@
 use Rattle.std.proofs.Common.{◌≡◌, ℕ, zero, suc, ◌+◌, ◌-◌, ◌*◌, ◌/◌, ◌<◌, ◌≤◌, Bool, true, false, List, [], ◌++◌, length, take, drop, arith, refl, ap, sym}
 use Rattle.std.proofs.Common.{◌∙◌, map, Some, Result, Ok, Err, IfOk, IfErr, IsOkAnd, subst}
 use Rattle.std.proofs.lemmas.Bool.{both_ways, le-ltb}
+use Rattle.base64_alphabet.proofs.Forms.{form}
 use Rattle.base64_alphabet.specs.Group.{End}
 use Rattle.base64_alphabet.specs.Encoding.{encoding_of}
 use Rattle.base64_alphabet.proofs.TableLemmas.{Facts}
@@ -57,8 +58,8 @@ block_at w count n text line rest j is =
 -- what is left at first are the items of the text
 pub first_items : (end : End) (table : List ℕ) (padded : Bool) (t chars few last : List ℕ) (b : ℕ) → Facts table → 0 < length t → t ≡ chars
     → b ≡ (length t - 1) / 4 → few ≡ []
-    → IsBytes last → drop (last_at (length t)) t ≡ encoding_of end table padded last
-    → map Some few ++ (block_items end table (take (4 * b) chars) ++ map Some last) ≡ items end table padded t
+    → IsBytes last → drop (last_at (length t)) t ≡ encoding_of (form end table padded) last
+    → map Some few ++ (block_items end table (take (4 * b) chars) ++ map Some last) ≡ items (form end table padded) t
 first_items end table padded t chars few last b f some walk blocks none bytes is =
     ap (λ us. map Some us ++ (block_items end table (take (4 * b) chars) ++ map Some last)) none
     ∙ ap (λ us. block_items end table (take (4 * b) us) ++ map Some last) (sym walk)
@@ -68,8 +69,8 @@ first_items end table padded t chars few last b f some walk blocks none bytes is
 pub no_endings : (w : ℕ) (text : List ℕ) → 0 < w → has_endings_from w w false text ≡ false → has_endings w text ≡ true → ⊥
 no_endings w text low bad good = both_ways (has_endings w text) (has_endings-walk w text low ∙ bad) good
 
-pub no_end : (end : End) (table : List ℕ) (padded : Bool) (t block : List ℕ) → block ≡ drop (last_at (length t)) t → IsNoEncoding end table padded block
-    → HasCanonicalEnd end table padded t → ⊥
+pub no_end : (end : End) (table : List ℕ) (padded : Bool) (t block : List ℕ) → block ≡ drop (last_at (length t)) t → IsNoEncoding (form end table padded) block
+    → HasCanonicalEnd (form end table padded) t → ⊥
 no_end end table padded t block at none (b, bytes, is) = none b bytes (at ∙ is)
 
 -- a text that is no longer than the width is one line

@@ -4,6 +4,7 @@ use Rattle.std.proofs.Common.{take, drop, arith, refl, ap, sym, ◌∙◌, map, 
 use Rattle.std.proofs.lemmas.Bool.{cases_Bool, both_ways, eqb-true, and_parts}
 use Rattle.std.proofs.lemmas.List.{length-take-le, take_all, take_at}
 use Rattle.std.proofs.lemmas.List.Elements.{Contains-append_left, Contains-append_right, All-same}
+use Rattle.base64_alphabet.proofs.Forms.{form}
 use Rattle.base64_alphabet.specs.Table.{all_in, is_in}
 use Rattle.base64_alphabet.specs.Group.{End, High, Low, bytes_of}
 use Rattle.base64_alphabet.specs.Encoding.{encoding_of, bytes_of_blocks}
@@ -98,15 +99,15 @@ none_bad (x ∷ b) (suc k, lt, is) = none_bad b (k, omega arith, is)
 
 -- the last block's bytes
 pub canonical_loose : (end : End) (table : List ℕ) (padded : Bool) (t b : List ℕ) → Facts table → 0 < length t → IsBytes b
-    → drop (last_at (length t)) t ≡ encoding_of end table padded b → loose_bytes end table padded (drop (last_at (length t)) t) ≡ b
+    → drop (last_at (length t)) t ≡ encoding_of (form end table padded) b → loose_bytes (form end table padded) (drop (last_at (length t)) t) ≡ b
 canonical_loose end table padded t b f some bytes is =
     let e = length-drop (last_at (length t)) t in
     last_loose end table padded (drop (last_at (length t)) t) b
     (is_last end table padded (drop (last_at (length t)) t) b f bytes (omega arith) (omega arith) is)
 
 -- what the items of a text with a canonical end tell
-pub items_encoding : (end : End) (table : List ℕ) (padded : Bool) (t b : List ℕ) → Facts table → 0 < length t → HasCanonicalEnd end table padded t
-    → items end table padded t ≡ map Some b → t ≡ encoding_of end table padded b
+pub items_encoding : (end : End) (table : List ℕ) (padded : Bool) (t b : List ℕ) → Facts table → 0 < length t → HasCanonicalEnd (form end table padded) t
+    → items (form end table padded) t ≡ map Some b → t ≡ encoding_of (form end table padded) b
 items_encoding end table padded t b f some (last, bytes, is) h =
     let q : ℕ = (length t - 1) / 4 in
     let le : 4 * ((length t - 1) / 4) ≤ length t = omega arith in
@@ -119,15 +120,15 @@ items_encoding end table padded t b f some (last, bytes, is) h =
           ∙ sym (ap (λ xs. xs ++ map Some last) (block_items-good end table (take (last_at (length t)) t) whole g))
           ∙ sym (ap (λ xs. block_items end table (take (last_at (length t)) t) ++ map Some xs) loose) ∙ h in
           whole_text end table padded t last ((length t - 1) / 4) f le g is
-          ∙ ap (encoding_of end table padded) (map_some_back _ _ i))
+          ∙ ap (encoding_of (form end table padded)) (map_some_back _ _ i))
       | inr bad ↦ absurd (none_bad b (rw h at (Contains-append_left (block_items end table (take (last_at (length t)) t))
-          (map Some (loose_bytes end table padded (drop (last_at (length t)) t))) None
+          (map Some (loose_bytes (form end table padded) (drop (last_at (length t)) t))) None
           (block_items-bad end table (take (last_at (length t)) t) whole bad))))
     ]
 
 -- a text is the encoding of one list of bytes at most
 pub one_value : (end : End) (table : List ℕ) (padded : Bool) (t a b : List ℕ) → Facts table → IsBytes a → IsBytes b
-    → t ≡ encoding_of end table padded a → t ≡ encoding_of end table padded b → a ≡ b
+    → t ≡ encoding_of (form end table padded) a → t ≡ encoding_of (form end table padded) b → a ≡ b
 one_value end table padded [] a b f x y p q = empty_value end table padded a (sym p) ∙ sym (empty_value end table padded b (sym q))
 one_value end table padded (c ∷ t) a b f x y p q =
     map_some_back a b (sym (encoding_items end table padded (c ∷ t) a f x (omega arith) p) ∙ encoding_items end table padded (c ∷ t) b f y (omega arith) q)
@@ -148,7 +149,7 @@ at_place table k f lt = let l = f.len in not_break table (slice_index table k) f
 abbrev NoBreak : ℕ → Type 0
 NoBreak c = is_line_break c ≡ false
 
-pub encoding_line : (end : End) (table : List ℕ) (padded : Bool) (b : List ℕ) → Facts table → IsBytes b → IsLine (encoding_of end table padded b)
+pub encoding_line : (end : End) (table : List ℕ) (padded : Bool) (b : List ℕ) → Facts table → IsBytes b → IsLine (encoding_of (form end table padded) b)
 encoding_line end table padded b f bytes = encoding_all NoBreak end table padded b (λ k lt. at_place table k f lt) refl bytes
 
 -- ---- texts in lines
@@ -162,14 +163,14 @@ some_joined w text low some ends =
 -- the lines of an encoding
 pub record OfBytes (end : End) (table : List ℕ) (padded : Bool) (w : ℕ) (text b : List ℕ) : Type 0 where
   pub some : 0 < length text
-  pub accepted : IsWrapped end table padded w text
-  pub items : items end table padded (joined w text) ≡ map Some b
+  pub accepted : IsWrapped (form end table padded) w text
+  pub items : items (form end table padded) (joined w text) ≡ map Some b
 
-pub of_bytes : (end : End) (table : List ℕ) (padded : Bool) (w : ℕ) (text b : List ℕ) → Facts table → 0 < w → IsWrappedText end table padded w text b
+pub of_bytes : (end : End) (table : List ℕ) (padded : Bool) (w : ℕ) (text b : List ℕ) → Facts table → 0 < w → IsWrappedText (form end table padded) w text b
     → OfBytes end table padded w text b
 of_bytes end table padded w text b f low (t, lines, is, bytes) =
     let a = lines_are w text t low lines in
-    let is' : joined w text ≡ encoding_of end table padded b = a.is_joined ∙ is in
+    let is' : joined w text ≡ encoding_of (form end table padded) b = a.is_joined ∙ is in
     let some = some_joined w text low a.some a.ends in
     let n : ℕ = length (joined w text) in
     let h = halves end table padded (joined w text) b ((length (joined w text) - 1) / 4) (omega arith) bytes is' in
@@ -180,23 +181,25 @@ of_bytes end table padded w text b f low (t, lines, is, bytes) =
     }
 
 pub bytes_of_lines : (end : End) (table : List ℕ) (padded : Bool) (w : ℕ) (text b : List ℕ) → Facts table → 0 < w → 0 < length text
-    → IsWrapped end table padded w text
-    → IsBytes b → items end table padded (joined w text) ≡ map Some b → IsWrappedText end table padded w text b
+    → IsWrapped (form end table padded) w text
+    → IsBytes b → items (form end table padded) (joined w text) ≡ map Some b → IsWrappedText (form end table padded) w text b
 bytes_of_lines end table padded w text b f low some (last, ends, canonical) bytes h =
     let long = some_joined w text low some ends in
-    let is : joined w text ≡ encoding_of end table padded b = items_encoding end table padded (joined w text) b f long canonical h in
-    let line : IsLine (joined w text) = All-same NoBreak (joined w text) (encoding_of end table padded b) is (encoding_line end table padded b f bytes) in
+    let is : joined w text ≡ encoding_of (form end table padded) b = items_encoding end table padded (joined w text) b f long canonical h in
+    let line : IsLine (joined w text) = All-same NoBreak (joined w text) (encoding_of (form end table padded) b) is
+    (encoding_line end table padded b f bytes) in
     (joined w text, lines_back w text low some ends last line, is, bytes)
 
 -- how many items there are
 pub length-items : (end : End) (table : List ℕ) (padded : Bool) (t : List ℕ) → 0 < length t
-    → length (items end table padded t) ≡ 3 * ((length t - 1) / 4) + length (loose_bytes end table padded (drop (last_at (length t)) t))
+    → length (items (form end table padded) t) ≡ 3 * ((length t - 1) / 4) + length (loose_bytes (form end table padded) (drop (last_at (length t)) t))
 length-items end table padded t some =
     let le : 4 * ((length t - 1) / 4) ≤ length t = omega arith in
     let len : length (take (last_at (length t)) t) ≡ 4 * ((length t - 1) / 4) = length-take-le (last_at (length t)) t le in
     let front = length-block_items end table (take (last_at (length t)) t) (omega arith) in
-    let both = length-append (block_items end table (take (last_at (length t)) t)) (map Some (loose_bytes end table padded (drop (last_at (length t)) t))) in
-    let rest = length-map_some (loose_bytes end table padded (drop (last_at (length t)) t)) in
+    let both = length-append (block_items end table (take (last_at (length t)) t))
+    (map Some (loose_bytes (form end table padded) (drop (last_at (length t)) t))) in
+    let rest = length-map_some (loose_bytes (form end table padded) (drop (last_at (length t)) t)) in
     omega arith
 
 -- what stood before

@@ -4,6 +4,7 @@ use Rattle.std.proofs.Common.{append_assoc, append-nil, length-append, length-dr
 use Rattle.std.proofs.lemmas.List.{drop_all, length-take-le, take-append-drop, take_all, take_at}
 use Rattle.std.proofs.Math.Seq.{drop-append-add, take-append-add}
 use borrow.Rule.Slice.PartMut.{post_of, put_mid}
+use Rattle.base64_alphabet.proofs.Forms.{form}
 use Rattle.base64_alphabet.specs.Encoding.{characters, encoding_of}
 use Rattle.base64_alphabet.specs.Group.{End}
 use Rattle.base64_text.specs.Counts.{encoded_len}
@@ -17,9 +18,10 @@ post_none : (a k : ℕ) (xs : List ℕ) → length xs ≤ a + k → post_of a k 
 post_none a k xs le = let l : length (drop a xs) ≡ length xs - a = length-drop a xs in drop_all k (drop a xs) (omega arith)
 
 -- the encoding of whole groups has no padding
-pub whole_encoding : (end : End) (table : List ℕ) (padded : Bool) (b : List ℕ) → length b % 3 ≡ 0 → encoding_of end table padded b ≡ characters end table b
+pub whole_encoding : (end : End) (table : List ℕ) (padded : Bool) (b : List ℕ) → length b % 3 ≡ 0 → encoding_of (form end table padded) b
+    ≡ characters end table b
 whole_encoding end table padded b whole =
-    ap (encoding_of end table padded) (sym (append-nil b)) ∙ encoding_of-append end table b [] padded whole
+    ap (encoding_of (form end table padded)) (sym (append-nil b)) ∙ encoding_of-append end table b [] padded whole
     ∙ ap (λ xs. characters end table b ++ xs) (empty_encoding end table padded) ∙ append-nil (characters end table b)
 
 pub whole_len : (padded : Bool) (n : ℕ) → n % 3 ≡ 0 → encoded_len padded n ≡ 4 * (n / 3)
@@ -28,7 +30,7 @@ whole_len false n whole = omega arith
 
 -- what was written where it was to fill an output of whole groups
 filled : (end : End) (table : List ℕ) (padded : Bool) (b out : List ℕ) (n : ℕ) → length b % 3 ≡ 0 → n ≡ encoded_len padded (length b)
-    → length out ≡ 4 * (length b / 3) → take n out ≡ encoding_of end table padded b → out ≡ characters end table b
+    → length out ≡ 4 * (length b / 3) → take n out ≡ encoding_of (form end table padded) b → out ≡ characters end table b
 filled end table padded b out n whole is len text =
     let l = whole_len padded (length b) whole in
     sym (take_all n out (omega arith)) ∙ text ∙ whole_encoding end table padded b whole
@@ -54,9 +56,9 @@ pub groups_written : (end : End) (table : List ℕ) (padded : Bool) (p n m : ℕ
     → length block ≡ 3 → 3 - p ≤ length input
     → length out ≡ 4 * ((p + length input) / 3) → head ≡ take (3 - p) input → rest ≡ drop (3 - p) input → copied ≡ head
     → groups ≡ take (3 * (length rest / 3)) rest
-    → n ≡ encoded_len padded (length (put_mid p (3 - p) block copied)) → take n first ≡ encoding_of end table padded (put_mid p (3 - p) block copied)
+    → n ≡ encoded_len padded (length (put_mid p (3 - p) block copied)) → take n first ≡ encoding_of (form end table padded) (put_mid p (3 - p) block copied)
     → length first ≡ 4
-    → m ≡ encoded_len padded (length groups) → take m second ≡ encoding_of end table padded groups → length second ≡ length out - 4
+    → m ≡ encoded_len padded (length groups) → take m second ≡ encoding_of (form end table padded) groups → length second ≡ length out - 4
     → put_mid 4 (length (first ++ drop 4 out) - 4) (first ++ drop 4 out) second ≡ characters end table (whole_groups (take p block ++ input))
 groups_written end table padded p n m block input head rest groups copied out first second few three long room is_head is_rest is_copied is_groups n_is
     first_text first_len m_is second_text second_len =

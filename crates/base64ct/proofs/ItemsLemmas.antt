@@ -1,6 +1,7 @@
 -- The items of an encoding are its bytes.
 use Rattle.std.proofs.Common.{◌≡◌, ℕ, suc, ◌+◌, ◌-◌, ◌*◌, ◌/◌, ◌%◌, ◌<◌, Bool, List, [], ◌∷◌, ◌++◌, length, take, drop, arith, refl, ap, ◌∙◌, map, Option, Some}
 use Rattle.std.proofs.lemmas.List.{take-append-drop, length-drop}
+use Rattle.base64_alphabet.proofs.Forms.{form}
 use Rattle.base64_alphabet.specs.Encoding.{characters, encoding_of}
 use Rattle.base64_alphabet.specs.Group.{End, High, Low, characters_of}
 use Rattle.base64_text.specs.Canonical.{IsBytes, loose_bytes}
@@ -48,15 +49,15 @@ map-append [] ys = refl
 map-append (x ∷ xs) ys = ap (λ zs. Some x ∷ zs) (map-append xs ys)
 
 pub encoding_items : (end : End) (table : List ℕ) (padded : Bool) (t b : List ℕ) → Facts table → IsBytes b → 0 < length t
-    → t ≡ encoding_of end table padded b → items end table padded t ≡ map Some b
+    → t ≡ encoding_of (form end table padded) b → items (form end table padded) t ≡ map Some b
 encoding_items end table padded t b f bytes some is =
     let q : ℕ = (length t - 1) / 4 in
     let h = halves end table padded t b ((length t - 1) / 4) (omega arith) bytes is in
     let e = length-drop (4 * ((length t - 1) / 4)) t in
     let l = is_last end table padded (drop (4 * ((length t - 1) / 4)) t) (drop (3 * ((length t - 1) / 4)) b) f h.rest_bytes (omega arith) (omega arith)
     h.rest in
-    ap (λ xs. block_items end table xs ++ map Some (loose_bytes end table padded (drop (4 * ((length t - 1) / 4)) t))) h.front
-    ∙ ap (λ xs. xs ++ map Some (loose_bytes end table padded (drop (4 * ((length t - 1) / 4)) t)))
+    ap (λ xs. block_items end table xs ++ map Some (loose_bytes (form end table padded) (drop (4 * ((length t - 1) / 4)) t))) h.front
+    ∙ ap (λ xs. xs ++ map Some (loose_bytes (form end table padded) (drop (4 * ((length t - 1) / 4)) t)))
     (front_items end table (take (3 * ((length t - 1) / 4)) b) f h.front_bytes h.whole)
     ∙ ap (λ xs. map Some (take (3 * ((length t - 1) / 4)) b) ++ map Some xs)
     (last_loose end table padded (drop (4 * ((length t - 1) / 4)) t) (drop (3 * ((length t - 1) / 4)) b) l)

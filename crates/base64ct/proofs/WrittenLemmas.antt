@@ -6,6 +6,7 @@ use Rattle.std.proofs.lemmas.List.Elements.{All-append, All-cons, All-head, All-
 use Rattle.std.proofs.lemmas.Grind.{get_or_default_zero}
 use Rattle.std.proofs.lemmas.Slice.{drop-put_mid, take-put_mid}
 use borrow.Rule.Slice.PartMut.{put_mid}
+use Rattle.base64_alphabet.proofs.Forms.{form}
 use Rattle.base64_alphabet.specs.Encoding.{bytes_of_blocks, characters, encoding_of}
 use Rattle.base64_alphabet.specs.Group.{End}
 use Rattle.base64_alphabet.proofs.TableLemmas.{Facts}
@@ -249,7 +250,7 @@ taken_len end table output block wrapper filled count i long =
 
 pub groups_len : (end : End) (table : List ℕ) (padded : Bool) (output block input : List ℕ) (wrapper : Option LineWrapper) (filled count : ℕ)
     → IsWritten end table wrapper output filled count → length block ≡ 3
-    → length (in_lines (lines_of wrapper) (encoding_of end table padded (whole_groups (taken_of end table wrapper output filled count block ++ input))))
+    → length (in_lines (lines_of wrapper) (encoding_of (form end table padded) (whole_groups (taken_of end table wrapper output filled count block ++ input))))
     ≡ in_lines_len (lines_of wrapper) (4 * ((count + length input) / 3) + 0)
 groups_len end table padded output block input wrapper filled count i long =
     let b : List ℕ = taken_of end table wrapper output filled count block ++ input in
@@ -258,20 +259,20 @@ groups_len end table padded output block input wrapper filled count i long =
     let part : length (whole_groups b) ≡ 3 * (length b / 3) = length-take-le (3 * (length b / 3)) b (omega arith) in
     let l : encoded_len padded (length (whole_groups b)) ≡ 4 * ((count + length input) / 3) + 0 = whole_len padded (length (whole_groups b)) (omega arith)
     ∙ omega arith in
-    length-in_lines wrapper (characters end table (bytes_written end table wrapper (take filled output))) (encoding_of end table padded (whole_groups b))
+    length-in_lines wrapper (characters end table (bytes_written end table wrapper (take filled output))) (encoding_of (form end table padded) (whole_groups b))
     i.lines
     ∙ ap (in_lines_len (lines_of wrapper)) (length-encoding_of end table (whole_groups b) padded ∙ l)
 
 -- an encoder's text ends where its output is filled to
 pub position_is : (end : End) (table : List ℕ) (padded : Bool) (output block : List ℕ) (wrapper : Option LineWrapper) (filled count : ℕ)
     → IsWritten end table wrapper output filled count → length block ≡ 3
-    → length (in_lines (lines_of wrapper) (encoding_of end table padded (whole_groups (taken_of end table wrapper output filled count block)))) ≡ filled
+    → length (in_lines (lines_of wrapper) (encoding_of (form end table padded) (whole_groups (taken_of end table wrapper output filled count block)))) ≡ filled
 position_is end table padded output block wrapper filled count i long =
     let b : List ℕ = taken_of end table wrapper output filled count block in
     let n : length b ≡ count = taken_len end table output block wrapper filled count i long in
     let part : length (whole_groups b) ≡ 3 * (length b / 3) = length-take-le (3 * (length b / 3)) b (omega arith) in
     let l : encoded_len padded (length (whole_groups b)) ≡ 4 * (count / 3) = whole_len padded (length (whole_groups b)) (omega arith) ∙ omega arith in
-    length-in_lines wrapper (characters end table (bytes_written end table wrapper (take filled output))) (encoding_of end table padded (whole_groups b))
+    length-in_lines wrapper (characters end table (bytes_written end table wrapper (take filled output))) (encoding_of (form end table padded) (whole_groups b))
     i.lines
     ∙ ap (in_lines_len (lines_of wrapper)) (length-encoding_of end table (whole_groups b) padded ∙ l) ∙ sym (filled_len end table output wrapper filled count i)
 
@@ -376,19 +377,19 @@ taken_bytes end table output block wrapper filled count i bytes =
     bytes_append (bytes_written end table wrapper (take filled output)) (take (count % 3) block) i.bytes bytes
 
 pub lines_ascii : (end : End) (table : List ℕ) (padded : Bool) (wrapper : Option LineWrapper) (s b : List ℕ) → Facts table → HasLines wrapper s → IsBytes b
-    → IsAscii (in_lines (lines_of wrapper) (encoding_of end table padded b))
+    → IsAscii (in_lines (lines_of wrapper) (encoding_of (form end table padded) b))
 lines_ascii end table padded wrapper s b f h bytes =
-    ascii_from_all (in_lines (lines_of wrapper) (encoding_of end table padded b))
-    (lines_all wrapper s (encoding_of end table padded b) h (encoding_all_ascii end table padded b f bytes))
+    ascii_from_all (in_lines (lines_of wrapper) (encoding_of (form end table padded) b))
+    (lines_all wrapper s (encoding_of (form end table padded) b) h (encoding_all_ascii end table padded b f bytes))
 
 pub finish_len : (end : End) (table : List ℕ) (padded : Bool) (output block : List ℕ) (wrapper : Option LineWrapper) (filled count : ℕ)
     → IsWritten end table wrapper output filled count → length block ≡ 3
-    → length (in_lines (lines_of wrapper) (encoding_of end table padded (taken_of end table wrapper output filled count block)))
+    → length (in_lines (lines_of wrapper) (encoding_of (form end table padded) (taken_of end table wrapper output filled count block)))
     ≡ in_lines_len (lines_of wrapper) (4 * (count / 3) + encoded_len padded (count % 3))
 finish_len end table padded output block wrapper filled count i long =
     let b : List ℕ = taken_of end table wrapper output filled count block in
     let m : count - 3 * (count / 3) ≡ count % 3 = omega arith in
-    length-in_lines wrapper (characters end table (bytes_written end table wrapper (take filled output))) (encoding_of end table padded b) i.lines
+    length-in_lines wrapper (characters end table (bytes_written end table wrapper (take filled output))) (encoding_of (form end table padded) b) i.lines
     ∙ ap (in_lines_len (lines_of wrapper)) (length-encoding_of end table b padded
     ∙ ap (encoded_len padded) (taken_len end table output block wrapper filled count i long)
     ∙ len_split padded count ∙ ap (λ k. 4 * (count / 3) + encoded_len padded k) m)
@@ -397,10 +398,10 @@ pub finished : (end : End) (table : List ℕ) (padded : Bool) (wrapper : Option 
     (block : List ℕ)
     → IsWritten end table wrapper output filled count → length block ≡ 3 → e ≤ length output → e ≡ in_lines_len (lines_of wrapper) (4 * (count / 3) + more)
     → more ≡ encoded_len padded (count % 3) → r ≡ encoded_len padded (length (take (count % 3) block))
-    → take r n ≡ encoding_of end table padded (take (count % 3) block) → length n ≡ more
+    → take r n ≡ encoding_of (form end table padded) (take (count % 3) block) → length n ≡ more
     → out ≡ take filled (take e (put_mid (e - more) (e - (e - more)) output n))
     ++ in_lines_from wrapper (drop (e - more) (take e (put_mid (e - more) (e - (e - more)) output n)))
-    → take e (out ++ tail) ≡ in_lines (lines_of wrapper) (encoding_of end table padded (taken_of end table wrapper output filled count block))
+    → take e (out ++ tail) ≡ in_lines (lines_of wrapper) (encoding_of (form end table padded) (taken_of end table wrapper output filled count block))
 finished end table padded wrapper output n out tail filled count e r more block i long fits e_is more_is r_is text size out_is =
     let w : List ℕ = bytes_written end table wrapper (take filled output) in
     let rest : List ℕ = take (count % 3) block in
@@ -408,15 +409,15 @@ finished end table padded wrapper output n out tail filled count e r more block 
     (e_is ∙ ap (λ k. in_lines_len (lines_of wrapper) (4 * (count / 3) + k)) (sym size)) (ap (λ k. e - k) (sym size)) in
     let wait : length rest ≡ count % 3 = length-take-le (count % 3) block (omega arith) in
     let all : r ≡ length n = r_is ∙ ap (encoded_len padded) wait ∙ sym more_is ∙ sym size in
-    let is_text : n ≡ encoding_of end table padded rest = sym (take_all r n (omega arith)) ∙ text in
+    let is_text : n ≡ encoding_of (form end table padded) rest = sym (take_all r n (omega arith)) ∙ text in
     let is : out ≡ take filled output ++ in_lines_from wrapper n = out_is ∙ rw (p.at.back, p.at.front filled p.low) refl in
     let k : length (take filled output) ≡ filled = length-take-le filled output i.within in
     let len : length out ≡ e = ap length is ∙ length-append (take filled output) (in_lines_from wrapper n)
     ∙ ap (λ m. m + length (in_lines_from wrapper n)) k ∙ p.room in
     let groups = i.groups in
     take_at out tail e len ∙ is ∙ ap (λ xs. take filled output ++ in_lines_from wrapper xs) is_text
-    ∙ ap (λ xs. xs ++ in_lines_from wrapper (encoding_of end table padded rest)) i.text
-    ∙ sym (in_lines-append wrapper (characters end table w) (encoding_of end table padded rest) i.lines)
+    ∙ ap (λ xs. xs ++ in_lines_from wrapper (encoding_of (form end table padded) rest)) i.text
+    ∙ sym (in_lines-append wrapper (characters end table w) (encoding_of (form end table padded) rest) i.lines)
     ∙ ap (in_lines (lines_of wrapper)) (sym (encoding_of-append end table w rest padded (omega arith)))
 
 pub finish_size : (wrapper : Option LineWrapper) (output n : List ℕ) (e more count : ℕ) → e ≤ length output

@@ -1,7 +1,7 @@
 -- What an encoder is seen as, and the text that it writes.
-use Rattle.std.specs.Prelude.{ℕ, ◌*◌, ◌/◌, Bool, List, length, take, Option, Some, None}
+use Rattle.std.specs.Prelude.{ℕ, ◌*◌, ◌/◌, List, length, take, Option, Some, None}
 use Rattle.base64_alphabet.specs.Encoding.{encoding_of}
-use Rattle.base64_alphabet.specs.Group.{End}
+use Rattle.base64_alphabet.specs.Form.{Form}
 use Rattle.base64ct.specs.Wrapping.{wrapped, wrapped_len}
 use Rattle.base64ct.specs.declared.line_ending.LineEnding.{LineEnding}
 
@@ -23,8 +23,8 @@ abbrev pub whole_groups : List ℕ → List ℕ
 whole_groups bytes = take (3 * (length bytes / 3)) bytes
 
 -- how long the text is that an encoder has written: that of the whole groups taken
-abbrev pub position_of : End → List ℕ → Bool → Progress → ℕ
-position_of end table padded e = length (in_lines e.lines (encoding_of end table padded (whole_groups e.taken)))
+abbrev pub position_of : Form → Progress → ℕ
+position_of form e = length (in_lines e.lines (encoding_of form (whole_groups e.taken)))
 
 -- the length of n characters in an encoder's lines
 abbrev pub in_lines_len : Option (ℕ × LineEnding) → ℕ → ℕ

@@ -3,6 +3,7 @@ use Rattle.std.specs.Prelude.{◌≡◌, ℕ, ◌+◌, ◌<◌, ◌≤◌, ◌^�
 use Rattle.std.specs.Prelude.{None, Contains}
 use Rattle.base64_alphabet.specs.Table.{all_in}
 use Rattle.base64_alphabet.specs.Group.{End, bytes_of}
+use Rattle.base64_alphabet.specs.Form.{Form}
 use Rattle.base64_text.specs.Canonical.{loose_bytes}
 use Rattle.base64_text.specs.LastBlock.{last_at, HasCanonicalEnd}
 use Rattle.base64ct.specs.Lines.{joined, has_endings, ends_in_ending}
@@ -16,19 +17,19 @@ block_items end table (p ∷ q ∷ r ∷ s ∷ rest) = (if all_in table (p ∷ q
 block_items end table _ = []
 
 -- the items of a text: those of its blocks before the last, and the bytes of the last
-abbrev pub items : End → List ℕ → Bool → List ℕ → List (Option ℕ)
-items end table padded t = block_items end table (take (last_at (length t)) t) ++ map Some (loose_bytes end table padded (drop (last_at (length t)) t))
+abbrev pub items : Form → List ℕ → List (Option ℕ)
+items form t = block_items form.end form.table (take (last_at (length t)) t) ++ map Some (loose_bytes form (drop (last_at (length t)) t))
 
 -- each line that is cut off has its ending, none follows the last, and the last block of the lines joined
 -- is canonical
-abbrev pub IsWrapped : End → List ℕ → Bool → ℕ → List ℕ → Type 0
-IsWrapped end table padded w text = (ends_in_ending text ≡ false) × (has_endings w text ≡ true) × HasCanonicalEnd end table padded (joined w text)
+abbrev pub IsWrapped : Form → ℕ → List ℕ → Type 0
+IsWrapped form w text = (ends_in_ending text ≡ false) × (has_endings w text ≡ true) × HasCanonicalEnd form (joined w text)
 
 -- why `new_wrapped` refuses a text
-abbrev pub IsWrapError : End → List ℕ → Bool → ℕ → List ℕ → Error → Type 0
-IsWrapError end table padded w text InvalidLength = (w < 4) ⊎ (length text ≡ 0)
-IsWrapError end table padded w text InvalidEncoding = (4 ≤ w) × (0 < length text) × (IsWrapped end table padded w text → ⊥)
-IsWrapError end table padded w text OutOfMemory = ⊥
+abbrev pub IsWrapError : Form → ℕ → List ℕ → Error → Type 0
+IsWrapError form w text InvalidLength = (w < 4) ⊎ (length text ≡ 0)
+IsWrapError form w text InvalidEncoding = (4 ≤ w) × (0 < length text) × (IsWrapped form w text → ⊥)
+IsWrapError form w text OutOfMemory = ⊥
 
 -- why all that is left is not appended to a vector of n bytes
 abbrev pub IsAppendError : List (Option ℕ) → ℕ → Error → Type 0
@@ -37,10 +38,10 @@ IsAppendError left n InvalidEncoding = (length left + n < 2 ^ 64) × Contains le
 IsAppendError left n OutOfMemory = length left + n < 2 ^ 64
 
 -- why `new` refuses a text, behind which an ending was dropped
-abbrev pub IsNewError : End → List ℕ → Bool → List ℕ → Error → Type 0
-IsNewError end table padded text InvalidLength = length text ≡ 0
-IsNewError end table padded text InvalidEncoding = (0 < length text) × (HasCanonicalEnd end table padded text → ⊥)
-IsNewError end table padded text OutOfMemory = ⊥
+abbrev pub IsNewError : Form → List ℕ → Error → Type 0
+IsNewError form text InvalidLength = length text ≡ 0
+IsNewError form text InvalidEncoding = (0 < length text) × (HasCanonicalEnd form text → ⊥)
+IsNewError form text OutOfMemory = ⊥
 
 -- why n bytes are not taken from what is left
 abbrev pub IsTakeError : List (Option ℕ) → ℕ → Error → Type 0

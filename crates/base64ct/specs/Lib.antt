@@ -1,4 +1,5 @@
 pub use Rattle.base64_alphabet.specs.Encoding
+pub use Rattle.base64_alphabet.specs.Form
 pub use Rattle.base64_alphabet.specs.Group
 pub use Rattle.base64_alphabet.specs.Table
 pub use Rattle.base64_text.specs.Canonical

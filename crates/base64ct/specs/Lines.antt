@@ -1,7 +1,7 @@
 -- Texts in lines (after the line endings of RFC 7468 section 2).
 use Rattle.std.specs.Prelude.{◌≡◌, ℕ, zero, suc, ◌<◌, ◌≤◌, nat_lt, Bool, true, false, ◌==◌, ◌&&◌, ◌||◌, if◌then◌else◌, List, [], ◌∷◌, ◌++◌, ◌-◌, length}
 use Rattle.std.specs.Prelude.{slice_index, take, drop, All}
-use Rattle.base64_alphabet.specs.Group.{End}
+use Rattle.base64_alphabet.specs.Form.{Form}
 use Rattle.base64_alphabet.specs.Encoding.{encoding_of}
 use Rattle.base64_text.specs.Canonical.{IsBytes}
 
@@ -25,8 +25,8 @@ pub data Lines (w : ℕ) : List ℕ → List ℕ → Type 0 where
   More : (line ending text t : List ℕ) → IsLine line → length line ≡ w → IsEnding ending → Lines w text t → Lines w (line ++ ending ++ text) (line ++ t)
 
 -- the text is lines of w characters whose join is the encoding of the bytes b
-abbrev pub IsWrappedText : End → List ℕ → Bool → ℕ → List ℕ → List ℕ → Type 0
-IsWrappedText end table padded w text b = (t : List ℕ) × Lines w text t × (t ≡ encoding_of end table padded b) × IsBytes b
+abbrev pub IsWrappedText : Form → ℕ → List ℕ → List ℕ → Type 0
+IsWrappedText form w text b = (t : List ℕ) × Lines w text t × (t ≡ encoding_of form b) × IsBytes b
 
 -- a text starts with CR or LF
 abbrev pub starts_with_ending : List ℕ → Bool

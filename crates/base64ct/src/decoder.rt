@@ -23,9 +23,9 @@ use std::alloc::AllocError;
 use std::io;
 use std::marker::{Model, PhantomData};
 
-/// Decodes a text, or one in lines such as the body of a PEM document, piece by piece. It borrows the text,
-/// and is seen as the list of what is left: for each byte to come its value, or `None` where its block of
-/// four characters has one that isn't in the table.
+/// Decodes a text (RFC 4648 section 4), or one in lines such as the body of a PEM document (RFC 7468 section 2),
+/// piece by piece. It borrows the text, and is seen as the list of what is left: for each byte to come its value,
+/// or `None` where its block of four characters has one that isn't in the table.
 #[derive(Drop)]
 pub struct Decoder<'i, E: Encoding> {
     left: Left<'i>,
@@ -39,9 +39,9 @@ impl<'i, E: Encoding> Model for Decoder<'i, E> {
 
     ghost Value = { List (Option ℕ) };
 
-    ghost view = { λ d. items_left E.end E.table d.left };
+    ghost view = { λ d. items_left E.form.end E.form.table d.left };
 
-    ghost invariant = { λ d. (d.remaining ≡ length (items_left E.end E.table d.left)) × IsLeft d.left };
+    ghost invariant = { λ d. (d.remaining ≡ length (items_left E.form.end E.form.table d.left)) × IsLeft d.left };
 }
 
 impl<'i, E: Encoding> Decoder<'i, E> {
@@ -51,10 +51,10 @@ impl<'i, E: Encoding> Decoder<'i, E> {
     /// `InvalidLength` tells that nothing remains; `InvalidEncoding` that the last block is no canonical
     /// encoding.
     pub fn new(input: &'i [u8]) -> Result<Self, Error>
-        ensures items { IfOk result (λ d. d ≡ items E.end E.table E.PADDED (trimmed input.now)) }
-        ensures accepted { IfOk result (λ _. HasCanonicalEnd E.end E.table E.PADDED (trimmed input.now)) }
+        ensures items { IfOk result (λ d. d ≡ items E.form (trimmed input.now)) }
+        ensures accepted { IfOk result (λ _. HasCanonicalEnd E.form (trimmed input.now)) }
         ensures some { IfOk result (λ _. 0 < length (trimmed input.now)) }
-        ensures err { IfErr result (IsNewError E.end E.table E.PADDED (trimmed input.now)) }
+        ensures err { IfErr result (IsNewError E.form (trimmed input.now)) }
     {
         let text = trim_break(input);
         if text.is_empty() {
@@ -69,20 +69,20 @@ impl<'i, E: Encoding> Decoder<'i, E> {
     /// `InvalidLength` tells that the width is below 4 or the text empty; `InvalidEncoding` that a line has
     /// another length, that an ending follows the last line, or that the last block is no canonical encoding.
     pub fn new_wrapped(input: &'i [u8], line_width: usize) -> Result<Self, Error>
-        ensures items { IfOk result (λ d. d ≡ items E.end E.table E.PADDED (joined line_width input.now)) }
-        ensures accepted { IfOk result (λ _. IsWrapped E.end E.table E.PADDED line_width input.now) }
+        ensures items { IfOk result (λ d. d ≡ items E.form (joined line_width input.now)) }
+        ensures accepted { IfOk result (λ _. IsWrapped E.form line_width input.now) }
         ensures wide { IfOk result (λ _. 4 ≤ line_width) }
         ensures some { IfOk result (λ _. 0 < length input.now) }
 
         // The decoder gives the bytes b exactly where the text is lines of their encoding.
-        ensures bytes { (b : List ℕ) → 4 ≤ line_width → IsWrappedText E.end E.table E.PADDED line_width input.now b
+        ensures bytes { (b : List ℕ) → 4 ≤ line_width → IsWrappedText E.form line_width input.now b
             → IsOkAnd result (λ d. d ≡ map Some b) }
         ensures text { IfOk result (λ d. (b : List ℕ) → IsBytes b → d ≡ map Some b
-            → IsWrappedText E.end E.table E.PADDED line_width input.now b) }
+            → IsWrappedText E.form line_width input.now b) }
 
-        ensures err { IfErr result (IsWrapError E.end E.table E.PADDED line_width input.now) }
+        ensures err { IfErr result (IsWrapError E.form line_width input.now) }
         ensures no_bytes { result ≡ Err Error.InvalidEncoding
-            → (b : List ℕ) → IsWrappedText E.end E.table E.PADDED line_width input.now b → ⊥ }
+            → (b : List ℕ) → IsWrappedText E.form line_width input.now b → ⊥ }
     {
         if line_width < MIN_LINE_WIDTH {
             return Err(Error::InvalidLength);
@@ -99,11 +99,11 @@ impl<'i, E: Encoding> Decoder<'i, E> {
     fn start(text: &'i [u8], width: usize) -> Result<Self, Error>
         requires width { 4 ≤ width }
         requires some { 0 < length text.now }
-        ensures items { IfOk result (λ d. d ≡ items E.end E.table E.PADDED (joined width text.now)) }
+        ensures items { IfOk result (λ d. d ≡ items E.form (joined width text.now)) }
         ensures endings { IfOk result (λ _. has_endings width text.now ≡ true) }
-        ensures canonical { IfOk result (λ _. HasCanonicalEnd E.end E.table E.PADDED (joined width text.now)) }
+        ensures canonical { IfOk result (λ _. HasCanonicalEnd E.form (joined width text.now)) }
         ensures err { IfErr result (λ error. (error ≡ Error.InvalidEncoding) × (has_endings width text.now ≡ true
-            → HasCanonicalEnd E.end E.table E.PADDED (joined width text.now) → ⊥)) }
+            → HasCanonicalEnd E.form (joined width text.now) → ⊥)) }
     {
         match begin::<E>(text, width) {
             Ok((left, remaining)) => Ok(Decoder {
@@ -163,7 +163,8 @@ impl<'i, E: Encoding> Decoder<'i, E> {
     }
 
     /// Appends all that is left, and answers how many bytes it appended. After a refusal the decoder and the
-    /// vector are as they were.
+    /// vector are as they were: `InvalidLength` tells that the vector would exceed `usize`, `InvalidEncoding` that a
+    /// block is bad.
     pub fn append_to(&mut self, buf: &mut Vec<u8>) -> Result<usize, Error>
         ensures bytes { OnOk result ((b : List ℕ) × IsBytes b × (self.old ≡ map Some b) × (buf.new.items ≡ buf.old.items ++ b)) }
         ensures count { IfOk result (λ n. n ≡ length self.old) }
@@ -188,9 +189,8 @@ impl<'i, E: Encoding> Decoder<'i, E> {
         }
     }
 
-    /// Appends all that is left, and answers the appended part. After a refusal the decoder and the vector are
-    /// as they were: `InvalidLength` tells that the vector would exceed `usize`, `InvalidEncoding` that a block
-    /// is bad. A caller that wants the vector too takes `append_to`.
+    /// `append_to`, which answers the appended part, and errs where it does. A caller that wants the vector too
+    /// takes `append_to`.
     pub fn decode_to_end<'o>(&mut self, buf: &'o mut Vec<u8>) -> Result<&'o [u8], Error>
         ensures bytes { IfOk result (λ bytes. self.old ≡ map Some bytes.now) }
         ensures none_left { OnOk result (self.new ≡ []) }
@@ -235,7 +235,8 @@ impl<'i, E: Encoding> Clone for Decoder<'i, E> {
     }
 }
 
-/// A refusal has the kind `InvalidData`, and changes nothing.
+/// A refusal has the kind `InvalidData`, and changes nothing: it tells that a block that the bytes need is bad, or
+/// of `read_exact` that fewer are left.
 impl<'i, E: Encoding> io::Read for Decoder<'i, E> {
     ghost remaining = { known_bytes };
 

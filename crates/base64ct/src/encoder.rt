@@ -19,9 +19,9 @@ use base64_text::{Encoding, Error, ascii_text, encode_front, known};
 use std::io;
 use std::marker::{Model, PhantomData};
 
-/// Encodes bytes that come piece by piece to the front of an output, as one text or in lines. It is seen as
-/// what it took, the length of its output, the part of it behind its text, which it hasn't changed, and the width
-/// and the ending of its lines.
+/// Encodes bytes that come piece by piece to the front of an output, as one text (RFC 4648 section 4) or in lines
+/// (RFC 7468 section 2). It is seen as what it took, the length of its output, the part of it behind its text,
+/// which it hasn't changed, and the width and the ending of its lines.
 #[derive(Drop)]
 pub struct Encoder<'o, E: Encoding> {
     output: &'o mut [u8],
@@ -42,13 +42,13 @@ impl<'o, E: Encoding> Model for Encoder<'o, E> {
     ghost use Rattle.base64ct.specs.Written.{taken_of, IsWritten};
 
     ghost view = { λ e. record {
-      taken = taken_of E.end E.table e.wrapper e.output.now e.filled e.count e.block;
+      taken = taken_of E.form.end E.form.table e.wrapper e.output.now e.filled e.count e.block;
       room = length e.output.now;
       behind = drop e.filled e.output.now;
       lines = lines_of e.wrapper;
     } };
 
-    ghost invariant = { λ e. IsWritten E.end E.table e.wrapper e.output.now e.filled e.count };
+    ghost invariant = { λ e. IsWritten E.form.end E.form.table e.wrapper e.output.now e.filled e.count };
 }
 
 impl<'o, E: Encoding> Encoder<'o, E> {
@@ -90,10 +90,10 @@ impl<'o, E: Encoding> Encoder<'o, E> {
     /// the output.
     pub fn encode(&mut self, input: &[u8]) -> Result<(), Error>
         ensures ok { OnOk result (self.new ≡ record self.old { taken = self.old.taken ++ input.now; behind = self.new.behind }) }
-        ensures behind { OnOk result (self.new.behind ≡ drop (length (in_lines self.old.lines (encoding_of E.end E.table E.PADDED
-            (whole_groups (self.old.taken ++ input.now)))) - position_of E.end E.table E.PADDED self.old) self.old.behind) }
+        ensures behind { OnOk result (self.new.behind ≡ drop (length (in_lines self.old.lines (encoding_of E.form
+            (whole_groups (self.old.taken ++ input.now)))) - position_of E.form self.old) self.old.behind) }
         ensures fits { IsOk result ↔ (length (in_lines self.old.lines
-            (encoding_of E.end E.table E.PADDED (whole_groups (self.old.taken ++ input.now)))) ≤ self.old.room) }
+            (encoding_of E.form (whole_groups (self.old.taken ++ input.now)))) ≤ self.old.room) }
         ensures err { IfErr result (λ e. e ≡ Error.InvalidLength) }
         ensures same { OnErr result (self.new ≡ self.old) }
     {
@@ -112,15 +112,15 @@ impl<'o, E: Encoding> Encoder<'o, E> {
 
     /// The length of what was written: the text of all whole groups of three bytes taken.
     pub fn position(&self) -> usize
-        ensures { result ≡ position_of E.end E.table E.PADDED self.now }
+        ensures { result ≡ position_of E.form self.now }
     {
         self.filled
     }
 
     /// The text of all bytes taken. `InvalidLength` tells that it exceeds the output.
     pub fn finish(self) -> Result<&'o str, Error>
-        ensures text { IfOk result (λ text. text.now ≡ in_lines self.entry.lines (encoding_of E.end E.table E.PADDED self.entry.taken)) }
-        ensures fits { IsOk result ↔ (length (in_lines self.entry.lines (encoding_of E.end E.table E.PADDED self.entry.taken)) ≤ self.entry.room) }
+        ensures text { IfOk result (λ text. text.now ≡ in_lines self.entry.lines (encoding_of E.form self.entry.taken)) }
+        ensures fits { IsOk result ↔ (length (in_lines self.entry.lines (encoding_of E.form self.entry.taken)) ≤ self.entry.room) }
         ensures err { IfErr result (λ e. e ≡ Error.InvalidLength) }
     {
         match self.finish_with_remaining() {
@@ -129,13 +129,13 @@ impl<'o, E: Encoding> Encoder<'o, E> {
         }
     }
 
-    /// `finish`, with the part of the output behind the text.
+    /// `finish`, with the part of the output behind the text. It errs where `finish` does.
     pub fn finish_with_remaining(self) -> Result<(&'o str, &'o mut [u8]), Error>
-        ensures text { IfOk result (λ parts. parts.0.now ≡ in_lines self.entry.lines (encoding_of E.end E.table E.PADDED self.entry.taken)) }
+        ensures text { IfOk result (λ parts. parts.0.now ≡ in_lines self.entry.lines (encoding_of E.form self.entry.taken)) }
         ensures rest { IfOk result (λ parts. parts.1.now
-            ≡ drop (length parts.0.now - position_of E.end E.table E.PADDED self.entry) self.entry.behind) }
+            ≡ drop (length parts.0.now - position_of E.form self.entry) self.entry.behind) }
         ensures room { IfOk result (λ parts. length parts.0.now + length parts.1.now ≡ self.entry.room) }
-        ensures fits { IsOk result ↔ (length (in_lines self.entry.lines (encoding_of E.end E.table E.PADDED self.entry.taken)) ≤ self.entry.room) }
+        ensures fits { IsOk result ↔ (length (in_lines self.entry.lines (encoding_of E.form self.entry.taken)) ≤ self.entry.room) }
         ensures err { IfErr result (λ e. e ≡ Error.InvalidLength) }
     {
         let waiting = self.count % 3;
@@ -174,7 +174,7 @@ impl<'o, E: Encoding> Encoder<'o, E> {
     }
 }
 
-/// The bytes that it holds are those taken. A refusal has the kind `InvalidData`.
+/// The bytes that it holds are those taken. A refusal has the kind `InvalidData`, and tells what `encode`'s does.
 impl<'o, E: Encoding> io::Write for Encoder<'o, E> {
     ghost contents = { λ e. Some e.taken };
 
@@ -183,10 +183,10 @@ impl<'o, E: Encoding> io::Write for Encoder<'o, E> {
         ensures bytes { WriteAppends (Some self.old.taken) (Some self.new.taken) result buf.now }
         ensures count { IfOk result (λ n. n ≡ length buf.now) }
         ensures ok { OnOk result (self.new ≡ record self.old { taken = self.old.taken ++ buf.now; behind = self.new.behind }) }
-        ensures behind { OnOk result (self.new.behind ≡ drop (length (in_lines self.old.lines (encoding_of E.end E.table E.PADDED
-            (whole_groups (self.old.taken ++ buf.now)))) - position_of E.end E.table E.PADDED self.old) self.old.behind) }
+        ensures behind { OnOk result (self.new.behind ≡ drop (length (in_lines self.old.lines (encoding_of E.form
+            (whole_groups (self.old.taken ++ buf.now)))) - position_of E.form self.old) self.old.behind) }
         ensures fits { IsOk result ↔ (length (in_lines self.old.lines
-            (encoding_of E.end E.table E.PADDED (whole_groups (self.old.taken ++ buf.now)))) ≤ self.old.room) }
+            (encoding_of E.form (whole_groups (self.old.taken ++ buf.now)))) ≤ self.old.room) }
         ensures err { IfErr result (λ e. error_kind e ≡ InvalidData) }
         ensures same { OnErr result (self.new ≡ self.old) }
     {
@@ -238,7 +238,7 @@ fn rest_len(padded: bool, waiting: usize) -> usize
 fn encode_groups<E: Encoding>(block: &mut [u8; 3], waiting: usize, input: &[u8], out: &mut [u8])
     requires waiting { waiting < 3 }
     requires room { length out.old ≡ 4 * ((waiting + length input.now) / 3) }
-    ensures text { out.new ≡ characters E.end E.table (whole_groups (take waiting block.old ++ input.now)) }
+    ensures text { out.new ≡ characters E.form.end E.form.table (whole_groups (take waiting block.old ++ input.now)) }
     ensures rest { take ((waiting + length input.now) % 3) block.new
         ≡ drop (3 * ((waiting + length input.now) / 3)) (take waiting block.old ++ input.now) }
     ensures bytes { IsBytes (take waiting block.old ++ input.now) }

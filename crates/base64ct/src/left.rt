@@ -40,12 +40,12 @@ pub(crate) fn begin<'i, E: Alphabet>(
     requires width { 4 ≤ width }
     requires some { 0 < length text.now }
     ensures left { IfOk result (λ begun. IsLeft begun.0) }
-    ensures items { IfOk result (λ begun. items_left E.end E.table begun.0 ≡ items E.end E.table E.PADDED (joined width text.now)) }
-    ensures len { IfOk result (λ begun. begun.1 ≡ length (items_left E.end E.table begun.0)) }
+    ensures items { IfOk result (λ begun. items_left E.form.end E.form.table begun.0 ≡ items E.form (joined width text.now)) }
+    ensures len { IfOk result (λ begun. begun.1 ≡ length (items_left E.form.end E.form.table begun.0)) }
     ensures endings { IfOk result (λ _. has_endings width text.now ≡ true) }
-    ensures canonical { IfOk result (λ _. HasCanonicalEnd E.end E.table E.PADDED (joined width text.now)) }
+    ensures canonical { IfOk result (λ _. HasCanonicalEnd E.form (joined width text.now)) }
     ensures error { IfErr result (λ error. error ≡ Error.InvalidEncoding) }
-    ensures err { IfErr result (λ _. has_endings width text.now ≡ true → HasCanonicalEnd E.end E.table E.PADDED (joined width text.now) → ⊥) }
+    ensures err { IfErr result (λ _. has_endings width text.now ≡ true → HasCanonicalEnd E.form (joined width text.now) → ⊥) }
 {
     let Some(cut) = cut_lines(text, width) else {
         return Err(Error::InvalidEncoding);
@@ -104,10 +104,10 @@ fn no_bytes() -> Few
 /// Fills an output with the next items. `None` tells that one of them is bad.
 pub(crate) fn take_items<'i, E: Alphabet>(left: Left<'i>, out: &mut [u8]) -> Option<Left<'i>>
     requires left { IsLeft left }
-    requires room { length out.old ≤ length (items_left E.end E.table left) }
+    requires room { length out.old ≤ length (items_left E.form.end E.form.table left) }
     ensures left { IfSome result (λ next. IsLeft next) }
-    ensures items { IfSome result (λ next. items_left E.end E.table left.entry ≡ map Some out.new ++ items_left E.end E.table next) }
-    ensures bad { IfNone result (Contains (take (length out.old) (items_left E.end E.table left.entry)) None) }
+    ensures items { IfSome result (λ next. items_left E.form.end E.form.table left.entry ≡ map Some out.new ++ items_left E.form.end E.form.table next) }
+    ensures bad { IfNone result (Contains (take (length out.old) (items_left E.form.end E.form.table left.entry)) None) }
 {
     let (pending, n) = give(left.pending, out);
     let left = Left { pending, ..left };
@@ -121,10 +121,10 @@ pub(crate) fn take_items<'i, E: Alphabet>(left: Left<'i>, out: &mut [u8]) -> Opt
 fn take_blocks<'i, E: Alphabet>(left: Left<'i>, out: &mut [u8]) -> Option<Left<'i>>
     requires left { IsLeft left }
     requires none { few_bytes left.pending ≡ [] }
-    requires room { length out.old ≤ length (items_left E.end E.table left) }
+    requires room { length out.old ≤ length (items_left E.form.end E.form.table left) }
     ensures left { IfSome result (λ next. IsLeft next) }
-    ensures items { IfSome result (λ next. items_left E.end E.table left.entry ≡ map Some out.new ++ items_left E.end E.table next) }
-    ensures bad { IfNone result (Contains (take (length out.old) (items_left E.end E.table left.entry)) None) }
+    ensures items { IfSome result (λ next. items_left E.form.end E.form.table left.entry ≡ map Some out.new ++ items_left E.form.end E.form.table next) }
+    ensures bad { IfNone result (Contains (take (length out.old) (items_left E.form.end E.form.table left.entry)) None) }
 {
     let whole = (out.len() / 3).min(left.blocks);
     let (reader, good) = read_blocks::<E>(left.reader, whole, &mut out[..3 * whole]);
@@ -148,10 +148,10 @@ fn take_part<'i, E: Alphabet>(left: Left<'i>, out: &mut [u8]) -> Option<Left<'i>
     requires none { few_bytes left.pending ≡ [] }
     requires some { 0 < length out.old }
     requires few { 0 < left.blocks → length out.old < 3 }
-    requires room { length out.old ≤ length (items_left E.end E.table left) }
+    requires room { length out.old ≤ length (items_left E.form.end E.form.table left) }
     ensures left { IfSome result (λ next. IsLeft next) }
-    ensures items { IfSome result (λ next. items_left E.end E.table left.entry ≡ map Some out.new ++ items_left E.end E.table next) }
-    ensures bad { IfNone result (Contains (take (length out.old) (items_left E.end E.table left.entry)) None) }
+    ensures items { IfSome result (λ next. items_left E.form.end E.form.table left.entry ≡ map Some out.new ++ items_left E.form.end E.form.table next) }
+    ensures bad { IfNone result (Contains (take (length out.old) (items_left E.form.end E.form.table left.entry)) None) }
 {
     let left = next_few::<E>(left)?;
     let (pending, _) = give(left.pending, out);
@@ -163,10 +163,10 @@ fn next_few<'i, E: Alphabet>(left: Left<'i>) -> Option<Left<'i>>
     requires left { IsLeft left }
     requires none { few_bytes left.pending ≡ [] }
     ensures left { IfSome result (λ next. IsLeft next) }
-    ensures items { IfSome result (λ next. items_left E.end E.table next ≡ items_left E.end E.table left.entry) }
+    ensures items { IfSome result (λ next. items_left E.form.end E.form.table next ≡ items_left E.form.end E.form.table left.entry) }
     ensures block { IfSome result (λ next. 0 < left.entry.blocks → length (few_bytes next.pending) ≡ 3) }
     ensures last { IfSome result (λ next. left.entry.blocks ≡ 0 → few_bytes next.pending ≡ few_bytes left.entry.last) }
-    ensures bad { IfNone result (Contains (take 1 (items_left E.end E.table left.entry)) None) }
+    ensures bad { IfNone result (Contains (take 1 (items_left E.form.end E.form.table left.entry)) None) }
 {
     if left.blocks == 0 {
         return Some(Left {
@@ -223,8 +223,8 @@ fn read_blocks<'i, E: Alphabet>(
     requires room { length out.old ≡ 3 * blocks }
     ensures reader { IsReader result.0 }
     ensures characters { characters_left result.0 ≡ drop (4 * blocks) (characters_left reader.entry) }
-    ensures answer { result.1 ≡ all_in E.table (take (4 * blocks) (characters_left reader.entry)) }
-    ensures written { result.1 ≡ true → out.new ≡ bytes_of_blocks E.end E.table (take (4 * blocks) (characters_left reader.entry)) }
+    ensures answer { result.1 ≡ all_in E.form.table (take (4 * blocks) (characters_left reader.entry)) }
+    ensures written { result.1 ≡ true → out.new ≡ bytes_of_blocks E.form.end E.form.table (take (4 * blocks) (characters_left reader.entry)) }
 {
     let mut at = reader;
     let mut done = 0;
@@ -251,8 +251,9 @@ fn read_run<'i, E: Alphabet>(
     ensures reader { IsReader result.0 }
     ensures count { (0 < result.1) × (result.1 ≤ most) }
     ensures characters { characters_left result.0 ≡ drop (4 * result.1) (characters_left reader.entry) }
-    ensures answer { result.2 ≡ all_in E.table (take (4 * result.1) (characters_left reader.entry)) }
-    ensures written { result.2 ≡ true → take (3 * result.1) out.new ≡ bytes_of_blocks E.end E.table (take (4 * result.1) (characters_left reader.entry)) }
+    ensures answer { result.2 ≡ all_in E.form.table (take (4 * result.1) (characters_left reader.entry)) }
+    ensures written { result.2 ≡ true → take (3 * result.1) out.new
+        ≡ bytes_of_blocks E.form.end E.form.table (take (4 * result.1) (characters_left reader.entry)) }
 {
     let reader = settled(reader);
     let run = (reader.left.min(reader.text.len()) / 4).min(most);

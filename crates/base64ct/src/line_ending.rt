@@ -1,11 +1,11 @@
-//! What parts two lines.
+//! What parts two lines (RFC 7468 section 3, `eol`).
 #![tactic(auto)]
 
 ghost use Rattle.std.specs.Prelude.{◌≡◌, length};
 ghost use Rattle.base64ct.specs.Wrapping.{ending_bytes};
 ghost use Rattle.base64ct.specs.declared.line_ending.LineEnding.TheVariants.{LF};
 
-/// What parts two lines.
+/// What parts two lines of a text (RFC 7468 section 3, `eol`).
 #[derive(Clone, Copy, Debug, PartialEq, Eq, PartialOrd, Ord)]
 pub enum LineEnding {
     /// Carriage return: `\r`.

@@ -17,8 +17,8 @@ pub fn lines_have_one_join()
 
 /// A text in lines writes one list of bytes.
 pub fn text_has_one_value<E: Alphabet>()
-    ensures { (width : ℕ) (text a b : List ℕ) → 0 < width → IsWrappedText E.end E.table E.PADDED width text a
-        → IsWrappedText E.end E.table E.PADDED width text b → a ≡ b }
+    ensures { (width : ℕ) (text a b : List ℕ) → 0 < width → IsWrappedText E.form width text a
+        → IsWrappedText E.form width text b → a ≡ b }
 {}
 
 /// A text that is cut into lines joins to that text again.
@@ -37,5 +37,5 @@ pub fn wrapping_is_injective()
 /// back what an encoder took.
 pub fn wrapped_encoding_is_read_back<E: Alphabet>()
     ensures { (width : ℕ) (ending : LineEnding) (b : List ℕ) → 0 < width → 0 < length b → IsBytes b
-        → IsWrappedText E.end E.table E.PADDED width (wrapped width ending (encoding_of E.end E.table E.PADDED b)) b }
+        → IsWrappedText E.form width (wrapped width ending (encoding_of E.form b)) b }
 {}

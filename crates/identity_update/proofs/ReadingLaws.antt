@@ -1,7 +1,6 @@
 -- A text has one reading.
 use Rattle.std.proofs.Common.{◌≡◌, ◌≢◌, ℕ, ◌<◌, true, List, Option, Some, None, Err, IfSome, refl, sym, ap, subst, ◌∙◌, inl, inr, arith}
-use Rattle.base64_alphabet.specs.Group.{High}
-use Rattle.base64_alphabet.specs.Standard.{standard}
+use Rattle.base64_alphabet.specs.Standard.{standard_padded}
 use Rattle.base64ct.specs.Lines.{IsWrappedText}
 use Rattle.base64_text.specs.declared.errors.Error.TheVariants as base64
 use Rattle.der_core.specs.declared.error.Error.{Error}
@@ -20,7 +19,7 @@ use Rattle.identity_update.proofs.RuleLaws.{IsRule, verdict_rules}
 
 -- a text writes one list of bytes
 abbrev pub WritesOne : Type 0
-WritesOne = (width : ℕ) (text a b : List ℕ) → 0 < width → IsWrappedText High standard true width text a → IsWrappedText High standard true width text b → a ≡ b
+WritesOne = (width : ℕ) (text a b : List ℕ) → 0 < width → IsWrappedText standard_padded width text a → IsWrappedText standard_padded width text b → a ≡ b
 
 same_bytes : (width : ℕ) (text a b : List ℕ) → WritesOne → HasLength width text → WritesBytes width text a → WritesBytes width text b → a ≡ b
 same_bytes width text a b one has x y = let low : 0 < width = omega (arith, has.0) in one width text a b low x y

@@ -8,7 +8,7 @@ use Rattle.std.specs.Global.{Global}
 use Rattle.std.specs.Prelude.{String, string_bytes}
 use Rattle.base64_alphabet.specs.Encoding.{encoding_of}
 use Rattle.base64_alphabet.specs.Group.{High}
-use Rattle.base64_alphabet.specs.Standard.{standard}
+use Rattle.base64_alphabet.specs.Standard.{standard, standard_padded}
 use Rattle.base64ct.specs.Canonical.{IsBytes}
 use Rattle.base64ct.specs.Encoder.{whole_groups}
 use Rattle.base64ct.specs.Lines.{IsWrappedText}
@@ -64,43 +64,43 @@ wrapped_len_short w ending n low =
     omega (arith, endings)
 
 -- the text of the whole groups is no longer than the whole text
-pub groups_fit : (w : ℕ) (ending : LineEnding) (b : List ℕ) (n : ℕ) → 0 < w → n ≡ length (encoding_of High standard true b)
+pub groups_fit : (w : ℕ) (ending : LineEnding) (b : List ℕ) (n : ℕ) → 0 < w → n ≡ length (encoding_of standard_padded b)
     → length (text_of w ending (whole_groups b)) ≤ wrapped_len w ending n
 groups_fit w ending b n low is =
     let groups : List ℕ = whole_groups b in
-    let len = length-wrapped w ending (encoding_of High standard true groups) low in
+    let len = length-wrapped w ending (encoding_of standard_padded groups) low in
     let part = length-encoding_of High standard groups true in
     let all = length-encoding_of High standard b true in
     let fewer = length-take-le (3 * (length b / 3)) b (omega arith) in
-    let le : length (encoding_of High standard true groups) ≤ length (encoding_of High standard true b) = omega (arith, part, all, fewer) in
-    let more = wrapped_len_mono w ending (length (encoding_of High standard true groups)) n low (omega (arith, le, is)) in
+    let le : length (encoding_of standard_padded groups) ≤ length (encoding_of standard_padded b) = omega (arith, part, all, fewer) in
+    let more = wrapped_len_mono w ending (length (encoding_of standard_padded groups)) n low (omega (arith, le, is)) in
     omega (arith, len, more)
 
-pub encoding_short : (b : List ℕ) → length b < 2 ^ 32 → length (encoding_of High standard true b) < 2 ^ 33
+pub encoding_short : (b : List ℕ) → length b < 2 ^ 32 → length (encoding_of standard_padded b) < 2 ^ 33
 encoding_short b small = let all = length-encoding_of High standard b true in omega (arith, all, small)
 
 pub characters_are : (b : List ℕ) (n : ℕ) → length b < 2 ^ 32
-    → n ≡ (if nat_lt (4 * length b) (2 ^ 64) then length (encoding_of High standard true b) else 0) → n ≡ length (encoding_of High standard true b)
+    → n ≡ (if nat_lt (4 * length b) (2 ^ 64) then length (encoding_of standard_padded b) else 0) → n ≡ length (encoding_of standard_padded b)
 characters_are b n small is =
     let test : nat_lt (4 * length b) (2 ^ 64) ≡ true = grind (arith, nat_tests) in
-    is ∙ ap (λ (t : Bool). if t then length (encoding_of High standard true b) else 0) test
+    is ∙ ap (λ (t : Bool). if t then length (encoding_of standard_padded b) else 0) test
 
-pub room_fits : (w : ℕ) (ending : LineEnding) (b : List ℕ) (n : ℕ) → 0 < w → length b < 2 ^ 32 → n ≡ length (encoding_of High standard true b)
+pub room_fits : (w : ℕ) (ending : LineEnding) (b : List ℕ) (n : ℕ) → 0 < w → length b < 2 ^ 32 → n ≡ length (encoding_of standard_padded b)
     → wrapped_len w ending n < 2 ^ 64
 room_fits w ending b n low small is =
     let short = wrapped_len_short w ending n low in
     let characters = encoding_short b small in
     omega arith
 
-pub room_some : (w : ℕ) (ending : LineEnding) (b : List ℕ) (n : ℕ) → n ≡ length (encoding_of High standard true b) → 0 < length b → 0 < wrapped_len w ending n
+pub room_some : (w : ℕ) (ending : LineEnding) (b : List ℕ) (n : ℕ) → n ≡ length (encoding_of standard_padded b) → 0 < length b → 0 < wrapped_len w ending n
 room_some w ending b n is some =
     let characters = encoding_some High standard true b some in
     let first : n ≤ wrapped_len w ending n = omega arith in
     omega (arith, characters, is, first)
 
 pub text_len : (w : ℕ) (ending : LineEnding) (b : List ℕ) → 0 < w
-    → length (text_of w ending b) ≡ wrapped_len w ending (length (encoding_of High standard true b))
-text_len w ending b low = length-wrapped w ending (encoding_of High standard true b) low
+    → length (text_of w ending b) ≡ wrapped_len w ending (length (encoding_of standard_padded b))
+text_len w ending b low = length-wrapped w ending (encoding_of standard_padded b) low
 
 pub text_some : (w : ℕ) (ending : LineEnding) (b : List ℕ) → 0 < w → 0 < length b → 0 < length (text_of w ending b)
 text_some w ending b low some =
@@ -113,7 +113,7 @@ document_some u = let len = length_encode 48 (document_content (canonical u)) in
 
 abbrev pub ReadsBack : Type 0
 ReadsBack = (width : ℕ) (ending : LineEnding) (b : List ℕ) → 0 < width → 0 < length b → IsBytes b
-    → IsWrappedText High standard true width (wrapped width ending (encoding_of High standard true b)) b
+    → IsWrappedText standard_padded width (wrapped width ending (encoding_of standard_padded b)) b
 
 -- the text of bytes writes these bytes
 pub text_writes : (width : ℕ) (ending : LineEnding) (bytes text : List ℕ) → ReadsBack → 4 ≤ width → 0 < length bytes → IsBytes bytes
@@ -142,4 +142,4 @@ same_documents width ending a b first second one back wide x y is_a is_b same =
     let writes_a = back width ending (update_der a) low (document_some a) bytes_a in
     let writes_b = back width ending (update_der b) low (document_some b) bytes_b in
     one width (update_text width ending b) (update_der a) (update_der b) low
-    (subst (λ (t : List ℕ). IsWrappedText High standard true width t (update_der a)) same writes_a) writes_b
+    (subst (λ (t : List ℕ). IsWrappedText standard_padded width t (update_der a)) same writes_a) writes_b

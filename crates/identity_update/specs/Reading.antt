@@ -1,7 +1,6 @@
 -- What the text of an update means: the update that it lawfully writes, or the first rule that it breaks.
 use Rattle.std.specs.Prelude.{◌≡◌, ℕ, ◌<◌, ◌≤◌, true, List, length, Ok, Err}
-use Rattle.base64_alphabet.specs.Group.{High}
-use Rattle.base64_alphabet.specs.Standard.{standard}
+use Rattle.base64_alphabet.specs.Standard.{standard_padded}
 use Rattle.base64ct.specs.Lines.{IsWrappedText}
 use Rattle.base64_text.specs.declared.errors.Error.TheVariants as base64
 use Rattle.der_core.specs.Decode.{NoFront, Trails}
@@ -15,7 +14,7 @@ use Rattle.identity_update.specs.declared.error.UpdateError.TheVariants.{Documen
 
 -- the text is lines of this width whose join is the canonical padded Base64 of the bytes (RFC 4648, section 4)
 abbrev pub WritesBytes : ℕ → List ℕ → List ℕ → Type 0
-WritesBytes width text bytes = IsWrappedText High standard true width text bytes
+WritesBytes width text bytes = IsWrappedText standard_padded width text bytes
 
 -- the width and the length of a text in lines
 abbrev pub HasLength : ℕ → List ℕ → Type 0

@@ -1,8 +1,7 @@
 -- The text of an update.
 use Rattle.std.specs.Prelude.{ℕ, ◌<◌, List, true}
 use Rattle.base64_alphabet.specs.Encoding.{encoding_of}
-use Rattle.base64_alphabet.specs.Group.{High}
-use Rattle.base64_alphabet.specs.Standard.{standard}
+use Rattle.base64_alphabet.specs.Standard.{standard_padded}
 use Rattle.base64ct.specs.Wrapping.{wrapped}
 use Rattle.base64_text.specs.declared.errors.Error.{Error}
 use Rattle.base64_text.specs.declared.errors.Error.TheVariants.{InvalidEncoding, InvalidLength, OutOfMemory}
@@ -12,7 +11,7 @@ use Rattle.identity_update.specs.Parts.{UpdateParts}
 
 -- the canonical padded Base64 of the bytes (RFC 4648, section 4), in lines of this width that this ending parts
 abbrev pub text_of : ℕ → LineEnding → List ℕ → List ℕ
-text_of width ending bytes = wrapped width ending (encoding_of High standard true bytes)
+text_of width ending bytes = wrapped width ending (encoding_of standard_padded bytes)
 
 -- the text of the update's one document
 abbrev pub update_text : ℕ → LineEnding → UpdateParts → List ℕ

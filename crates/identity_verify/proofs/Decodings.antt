@@ -1,7 +1,6 @@
 -- The one answer to a text of base64url.
 use Rattle.std.proofs.Common.{◌≡◌, ℕ, false, List, Option, Some, None, refl, ap}
-use Rattle.base64_alphabet.specs.Group.{High}
-use Rattle.base64_alphabets.specs.Url.{url}
+use Rattle.base64_alphabets.specs.Url.{url_unpadded}
 use Rattle.base64ct.specs.Canonical.{IsBytes, IsNoEncoding}
 use Rattle.spiffe_token.specs.Parts.{base64url_text}
 use Rattle.identity_verify.specs.Decoding.{IsDecoding}
@@ -14,7 +13,7 @@ module _ (decode : List ℕ → Option (List ℕ)) (h : IsDecoding decode) (text
       by_answer (Some b) e = ap Some (one b (h.octets text b e) (h.encoded text b e))
       by_answer None e = absurd (h.refused text e v octets encoded)
 
-  pub refuses : IsNoEncoding High url false text → None ≡ decode text
+  pub refuses : IsNoEncoding url_unpadded text → None ≡ decode text
   refuses no_text = by_answer (decode text) refl
     where
       by_answer : (o : Option (List ℕ)) → decode text ≡ o → None ≡ o

@@ -6,7 +6,7 @@ use Rattle.std.proofs.lemmas.Grind.{common_steps}
 use Rattle.std.proofs.lemmas.List.Elements.{All-cons, All-head, All-tail}
 use Rattle.base64_alphabet.proofs.TableLemmas.{Facts, facts}
 use Rattle.base64_alphabet.specs.Group.{High}
-use Rattle.base64_alphabets.specs.Url.{url}
+use Rattle.base64_alphabets.specs.Url.{url, url_unpadded}
 use Rattle.base64_text.proofs.LooseLemmas.{is_text}
 use Rattle.base64ct.specs.Canonical.{IsBytes, loose_bytes}
 use Rattle.spiffe_token.specs.Parts.{base64url_text}
@@ -52,8 +52,8 @@ none_stands text bytes b is same octets encoded = elim (cases_Bool (pointwise na
 
 pub decoding : IsDecoding base64url_octets
 decoding = record {
-  octets = λ text bytes is. (stands text (loose_bytes High url false text) bytes is).octets;
-  encoded = λ text bytes is. (stands text (loose_bytes High url false text) bytes is).encoded;
+  octets = λ text bytes is. (stands text (loose_bytes url_unpadded text) bytes is).octets;
+  encoded = λ text bytes is. (stands text (loose_bytes url_unpadded text) bytes is).encoded;
   refused = λ text is b octets encoded.
-      none_stands text (loose_bytes High url false text) b is (is_text High url false text b url_facts octets encoded).loose octets encoded;
+      none_stands text (loose_bytes url_unpadded text) b is (is_text High url false text b url_facts octets encoded).loose octets encoded;
 }

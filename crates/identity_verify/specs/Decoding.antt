@@ -2,8 +2,7 @@
 use Rattle.std.specs.Prelude.{◌≡◌, ◌&&◌, ℕ, nat_eq, nat_lt, Bool, false, List, length, Option, Some, None, if◌then◌else◌}
 use Rattle.std.specs.List.{list_all}
 use Rattle.std.specs.Cmp.Lexicographic.{pointwise}
-use Rattle.base64_alphabet.specs.Group.{High}
-use Rattle.base64_alphabets.specs.Url.{url}
+use Rattle.base64_alphabets.specs.Url.{url_unpadded}
 use Rattle.base64ct.specs.Canonical.{IsBytes, IsNoEncoding, loose_bytes}
 use Rattle.spiffe_token.specs.Parts.{base64url_text}
 
@@ -11,7 +10,7 @@ use Rattle.spiffe_token.specs.Parts.{base64url_text}
 pub record IsDecoding (decode : List ℕ → Option (List ℕ)) : Type 0 where
   pub octets : (text bytes : List ℕ) → decode text ≡ Some bytes → IsBytes bytes
   pub encoded : (text bytes : List ℕ) → decode text ≡ Some bytes → text ≡ base64url_text bytes
-  pub refused : (text : List ℕ) → decode text ≡ None → IsNoEncoding High url false text
+  pub refused : (text : List ℕ) → decode text ≡ None → IsNoEncoding url_unpadded text
 
 abbrev pub are_octets : List ℕ → Bool
 are_octets bytes = list_all (λ b. nat_lt b 256) bytes
@@ -22,7 +21,7 @@ if_encoded text bytes = if are_octets bytes && pointwise nat_eq (base64url_text 
 
 -- the bytes that a text stands for
 abbrev pub base64url_octets : List ℕ → Option (List ℕ)
-base64url_octets text = if_encoded text (loose_bytes High url false text)
+base64url_octets text = if_encoded text (loose_bytes url_unpadded text)
 
 -- a header or claims have at most 87,381 characters
 abbrev pub decode_part : (List ℕ → Option (List ℕ)) → List ℕ → Option (List ℕ)

@@ -13,7 +13,7 @@ use std::alloc::Global;
 
 /// The bytes whose encoding a text is.
 pub fn decoded<E: Encoding>(alloc: Global, text: &str) -> Option<Vec<u8>>
-    ensures { IfSome result (λ bytes. text.now ≡ encoding_of E.end E.table E.PADDED bytes.items) }
+    ensures { IfSome result (λ bytes. text.now ≡ encoding_of E.form bytes.items) }
 {
     match E::decode_vec(alloc, text) {
         Ok(bytes) => Some(bytes),

@@ -1,9 +1,8 @@
 -- The parts of a token (RFC 7515, section 3.1): a header, claims and a signature, with dots between them.
 use Rattle.std.specs.Prelude.{◌≡◌, ℕ, ◌≤◌, ◌<◌, ◌==◌, nat_lt, ◌⊎◌, List, length, Bool, false, Option, Some, None, option_and_then, is_some, if◌then◌else◌}
 use Rattle.std.specs.List.{position_or_len, before_first, after_first}
-use Rattle.base64_alphabet.specs.Group.{High}
 use Rattle.base64_alphabet.specs.Encoding.{encoding_of}
-use Rattle.base64_alphabets.specs.Url.{url}
+use Rattle.base64_alphabets.specs.Url.{url_unpadded}
 use Rattle.base64ct.specs.Canonical.{IsBytes, IsNoEncoding}
 use Rattle.spiffe_token.specs.declared.parts.Parts as program
 
@@ -32,7 +31,7 @@ parts_of text = option_and_then (λ p. option_and_then (unless_dotted p.0) (cut 
 
 -- bytes in the alphabet for URLs and file names, without padding (RFC 7515, section 2)
 abbrev pub base64url_text : List ℕ → List ℕ
-base64url_text bytes = encoding_of High url false bytes
+base64url_text bytes = encoding_of url_unpadded bytes
 
 -- a part stands for bytes: it has at most 87,381 characters and is the bytes' text
 pub record IsPart (part bytes : List ℕ) : Type 0 where
@@ -42,4 +41,4 @@ pub record IsPart (part bytes : List ℕ) : Type 0 where
 
 -- a part that stands for none
 abbrev pub IsNoPart : List ℕ → Type 0
-IsNoPart part = (87381 < length part) ⊎ IsNoEncoding High url false part
+IsNoPart part = (87381 < length part) ⊎ IsNoEncoding url_unpadded part

@@ -31,12 +31,9 @@ const ENCODER: &'static [EncodeStep] = &[
 
 impl Alphabet for Base64 {
     ghost use Rattle.std.specs.Prelude.{true, refl};
-    ghost use Rattle.base64_alphabet.specs.Standard.{standard, standard_decoder, standard_encoder, standard_decodes, standard_encodes};
-    ghost use Rattle.base64_alphabet.specs.Group.{High};
+    ghost use Rattle.base64_alphabet.specs.Standard.{standard_padded, standard_decoder, standard_encoder, standard_decodes, standard_encodes};
 
-    ghost table = { standard };
-
-    ghost end = { High };
+    ghost form = { standard_padded };
 
     ghost BASE = { 65 };
 
@@ -72,6 +69,8 @@ impl Alphabet for Base64 {
         split_high(a, b, c)
     }
 
+    ghost tells_padding = { refl };
+
     ghost lawful = { refl };
 
     ghost decoder_answers = { standard_decodes };
@@ -91,12 +90,9 @@ impl Unpad for Base64 {
 
 impl Alphabet for Base64Unpadded {
     ghost use Rattle.std.specs.Prelude.{false, refl};
-    ghost use Rattle.base64_alphabet.specs.Standard.{standard, standard_decoder, standard_encoder, standard_decodes, standard_encodes};
-    ghost use Rattle.base64_alphabet.specs.Group.{High};
+    ghost use Rattle.base64_alphabet.specs.Standard.{standard_unpadded, standard_decoder, standard_encoder, standard_decodes, standard_encodes};
 
-    ghost table = { standard };
-
-    ghost end = { High };
+    ghost form = { standard_unpadded };
 
     ghost BASE = { 65 };
 
@@ -131,6 +127,8 @@ impl Alphabet for Base64Unpadded {
     fn split_3bytes(a: u8, b: u8, c: u8) -> [i16; 4] {
         split_high(a, b, c)
     }
+
+    ghost tells_padding = { refl };
 
     ghost lawful = { refl };
 

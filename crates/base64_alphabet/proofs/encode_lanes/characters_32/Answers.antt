@@ -17,6 +17,6 @@ loop-step-preserved g c = record {
 }
 
 pub returns-clause-characters : goal.returns-clause-characters
-returns-clause-characters g c = turned_end_lanes g.E.Alphabet.BASE _ g.E.Alphabet.encode_steps _ g.E.Alphabet.table _ _ c.encode_passes-step-items.ensures
+returns-clause-characters g c = turned_end_lanes g.E.Alphabet.BASE _ g.E.Alphabet.encode_steps _ g.E.Alphabet.form.table _ _ c.encode_passes-step-items.ensures
     c.loop-step-test.false g.met.E.Alphabet.encoder_answers
-    (facts g.E.Alphabet.table g.met.E.Alphabet.lawful).ascii c.requires.below c.loop-step.invariant.sum
+    (facts g.E.Alphabet.form.table g.met.E.Alphabet.lawful).ascii c.requires.below c.loop-step.invariant.sum

@@ -13,7 +13,8 @@ loop-group-preserved g c =
     let none : drop 4 (slice_range c.loop-group.dst (4 * k) (4 * k + 4)) ≡ [] =
     drop_all 4 (slice_range c.loop-group.dst (4 * k) (4 * k + 4)) (grind (arith, common_steps)) in
     record {
-      written = encoded_step g.E.Alphabet.end g.E.Alphabet.table src part c.loop-group.dst c.encode_3bytes_counted.new.dst k is (omega arith) (omega arith)
+      written = encoded_step g.E.Alphabet.form.end g.E.Alphabet.form.table src part c.loop-group.dst c.encode_3bytes_counted.new.dst k is (omega arith)
+          (omega arith)
           (grind (arith, common_steps))
           (rw none at c.encode_3bytes_counted.ensures.written) _ c.loop-group.invariant.written;
       rest = rest_step c.loop-group.dst c.encode_3bytes_counted.new.dst c.args.dst.now k (omega arith) (grind (arith, common_steps))
@@ -22,5 +23,5 @@ loop-group-preserved g c =
     }
 
 pub returns-clause-written : goal.returns-clause-written
-returns-clause-written g c = encoded_end g.E.Alphabet.end g.E.Alphabet.table c.args.src.now c.loop-group.dst c.args.dst.now c.loop-group.group _
+returns-clause-written g c = encoded_end g.E.Alphabet.form.end g.E.Alphabet.form.table c.args.src.now c.loop-group.dst c.args.dst.now c.loop-group.group _
     c.requires.whole refl c.loop-group-test.false c.loop-group.auto.group-end c.loop-group.invariant.written c.loop-group.invariant.rest

@@ -10,5 +10,5 @@ returns-clause-written g c =
     let first : take 24 (c.copy_from_slice.new.self ++ replicate 8 0) ≡ c.args.src.now = take_at c.copy_from_slice.new.self (replicate 8 0) 24 len
     ∙ c.copy_from_slice.ensures.after in
     c.copy_from_slice-2.ensures.after ∙ c.characters_32.ensures.characters
-    ∙ ap (map (slice_index g.E.Alphabet.table)) (c.digits_32-digits.ensures.digits ∙ ap (digits_of_bytes g.E.Alphabet.end) first)
-    ∙ digits_are_characters g.E.Alphabet.end g.E.Alphabet.table 8 c.args.src.now c.requires.bytes
+    ∙ ap (map (slice_index g.E.Alphabet.form.table)) (c.digits_32-digits.ensures.digits ∙ ap (digits_of_bytes g.E.Alphabet.form.end) first)
+    ∙ digits_are_characters g.E.Alphabet.form.end g.E.Alphabet.form.table 8 c.args.src.now c.requires.bytes

@@ -16,12 +16,13 @@ loop-part-preserved g c =
     length-take-le (32 * c.loop-part.part + 32 - 32 * c.loop-part.part) (drop (32 * c.loop-part.part) c.loop-part.dst) (omega arith) ∙ omega arith in
     let long : length c.encode_part.new.dst ≡ 32 = c.encode_part.auto.dst ∙ wide in
     record {
-      written = written_step g.E.Alphabet.end g.E.Alphabet.table c.args.src.now part c.loop-part.dst c.encode_part.new.dst k is (omega arith) room long
+      written = written_step g.E.Alphabet.form.end g.E.Alphabet.form.table c.args.src.now part c.loop-part.dst c.encode_part.new.dst k is (omega arith) room
+          long
           c.encode_part.ensures.written _ c.loop-part.invariant.written;
       rest = rest_step c.loop-part.dst c.encode_part.new.dst c.args.dst.now k room long c.loop-part.invariant.rest;
       steps = rw (c.encode_part.ensures.steps, c.loop-part.invariant.steps) (omega arith);
     }
 
 pub returns-clause-written : goal.returns-clause-written
-returns-clause-written g c = written_end g.E.Alphabet.end g.E.Alphabet.table c.args.src.now c.loop-part.dst c.args.dst.now c.loop-part.part _
+returns-clause-written g c = written_end g.E.Alphabet.form.end g.E.Alphabet.form.table c.args.src.now c.loop-part.dst c.args.dst.now c.loop-part.part _
     c.requires.whole refl c.loop-part-test.false c.loop-part.auto.part-end c.loop-part.invariant.written c.loop-part.invariant.rest

@@ -17,10 +17,10 @@ returns-clause-written g c =
     let whole = c.requires.whole in
     let room = c.requires.room in
     let len = c.encode_parts.auto.dst in
-    let front = c.encode_parts.ensures.written ∙ ap (λ m. characters g.E.Alphabet.end g.E.Alphabet.table (take n src) ++ drop m c.args.dst.now) e in
+    let front = c.encode_parts.ensures.written ∙ ap (λ m. characters g.E.Alphabet.form.end g.E.Alphabet.form.table (take n src) ++ drop m c.args.dst.now) e in
     let more = c.encode_each.ensures.written
-    ∙ (λ i. characters g.E.Alphabet.end g.E.Alphabet.table (tail_is n src i)
+    ∙ (λ i. characters g.E.Alphabet.form.end g.E.Alphabet.form.table (tail_is n src i)
     ++ drop (4 * (length (tail_is n src i) / 3)) (tail_is (32 * p) c.encode_parts.new.dst i)) in
-    run_written g.E.Alphabet.end g.E.Alphabet.table src c.args.dst.now c.encode_parts.new.dst _ c.encode_each.new.dst p
+    run_written g.E.Alphabet.form.end g.E.Alphabet.form.table src c.args.dst.now c.encode_parts.new.dst _ c.encode_each.new.dst p
     (4 * (length (drop (24 * (length c.args.src.now / 24)) c.args.src.now) / 3)) (4 * (length c.args.src.now / 3)) (omega arith) (omega arith) (omega arith)
     front (put_end (32 * p) c.encode_parts.new.dst c.encode_each.new.dst (omega arith)) more

@@ -7,7 +7,7 @@ use Rattle.base64_alphabet.proofs.lanes.decode_32.Goals as goal
 
 pub returns-clause-places : goal.returns-clause-places
 returns-clause-places g c =
-    let len = (facts g.E.Alphabet.table g.met.E.Alphabet.lawful).len in
+    let len = (facts g.E.Alphabet.form.table g.met.E.Alphabet.lawful).len in
     ap (λ zs. map (to_z w16) (map (of_z w16) zs)) (c.widened.ensures ∙ ap (map widened) c.places_32.ensures.places
-    ∙ widened_places g.E.Alphabet.table c.args.src.now len)
-    ∙ places_kept g.E.Alphabet.table c.args.src.now len
+    ∙ widened_places g.E.Alphabet.form.table c.args.src.now len)
+    ∙ places_kept g.E.Alphabet.form.table c.args.src.now len

@@ -9,17 +9,18 @@ use Rattle.base64_alphabet.proofs.lanes.decode_part.Goals as goal
 
 pub returns-clause-answer : goal.returns-clause-answer
 returns-clause-answer g c =
-    let len = (facts g.E.Alphabet.table g.met.E.Alphabet.lawful).len in
+    let len = (facts g.E.Alphabet.form.table g.met.E.Alphabet.lawful).len in
     c.are_places.ensures ∙ ap (all_below 64) (c.places_32-places.ensures.places
-    ∙ ap (map (λ x. low_byte (place_of g.E.Alphabet.table x))) c.copy_from_slice.ensures.after) ∙ all_below_are_in g.E.Alphabet.table c.args.src.now len
+    ∙ ap (map (λ x. low_byte (place_of g.E.Alphabet.form.table x))) c.copy_from_slice.ensures.after)
+    ∙ all_below_are_in g.E.Alphabet.form.table c.args.src.now len
 
 pub returns-clause-written : goal.returns-clause-written
 returns-clause-written g c h =
-    let len = (facts g.E.Alphabet.table g.met.E.Alphabet.lawful).len in
-    let places = c.places_32-places.ensures.places ∙ ap (map (λ x. low_byte (place_of g.E.Alphabet.table x))) c.copy_from_slice.ensures.after in
-    let low : all_below 64 c.places_32-places.result ≡ true = ap (all_below 64) places ∙ all_below_are_in g.E.Alphabet.table c.args.src.now len ∙ h in
-    c.copy_from_slice-2.ensures.after ∙ c.grouped.ensures.bytes low ∙ ap (bytes_of_digits g.E.Alphabet.end) places
-    ∙ digits_are_blocks g.E.Alphabet.end g.E.Alphabet.table c.args.src.now len h
+    let len = (facts g.E.Alphabet.form.table g.met.E.Alphabet.lawful).len in
+    let places = c.places_32-places.ensures.places ∙ ap (map (λ x. low_byte (place_of g.E.Alphabet.form.table x))) c.copy_from_slice.ensures.after in
+    let low : all_below 64 c.places_32-places.result ≡ true = ap (all_below 64) places ∙ all_below_are_in g.E.Alphabet.form.table c.args.src.now len ∙ h in
+    c.copy_from_slice-2.ensures.after ∙ c.grouped.ensures.bytes low ∙ ap (bytes_of_digits g.E.Alphabet.form.end) places
+    ∙ digits_are_blocks g.E.Alphabet.form.end g.E.Alphabet.form.table c.args.src.now len h
 
 pub copy_from_slice-requires-2 : goal.copy_from_slice-requires-2
 copy_from_slice-requires-2 g c =

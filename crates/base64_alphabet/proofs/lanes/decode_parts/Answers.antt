@@ -16,15 +16,17 @@ loop-part-preserved g c =
     length-take-le (24 * c.loop-part.part + 24 - 24 * c.loop-part.part) (drop (24 * c.loop-part.part) c.loop-part.dst) (omega arith) ∙ omega arith in
     let long : length c.decode_part-good.new.dst ≡ 24 = c.decode_part-good.auto.dst ∙ wide in
     record {
-      answer = answer_step g.E.Alphabet.table c.args.src.now part c.loop-part.good _ _ k is c.loop-part.invariant.answer c.decode_part-good.ensures.answer;
-      written = λ h. written_step g.E.Alphabet.end g.E.Alphabet.table c.args.src.now part c.loop-part.dst c.decode_part-good.new.dst k is (omega arith) room
+      answer = answer_step g.E.Alphabet.form.table c.args.src.now part c.loop-part.good _ _ k is c.loop-part.invariant.answer c.decode_part-good.ensures.answer;
+      written = λ h. written_step g.E.Alphabet.form.end g.E.Alphabet.form.table c.args.src.now part c.loop-part.dst c.decode_part-good.new.dst k is
+          (omega arith) room
           long
-          (c.decode_part-good.ensures.written (part_in g.E.Alphabet.table c.args.src.now part c.loop-part.good k is (sym c.loop-part.invariant.answer ∙ h)))
+          (c.decode_part-good.ensures.written (part_in g.E.Alphabet.form.table c.args.src.now part c.loop-part.good k is
+          (sym c.loop-part.invariant.answer ∙ h)))
           _ (c.loop-part.invariant.written h);
       rest = rest_step c.loop-part.dst c.decode_part-good.new.dst c.args.dst.now k room long c.loop-part.invariant.rest;
       steps = rw (c.decode_part-good.ensures.steps, c.loop-part.invariant.steps) (omega arith);
     }
 
 pub returns-clause-written : goal.returns-clause-written
-returns-clause-written g c h = written_end g.E.Alphabet.end g.E.Alphabet.table c.args.src.now c.loop-part.dst c.args.dst.now c.loop-part.part _
+returns-clause-written g c h = written_end g.E.Alphabet.form.end g.E.Alphabet.form.table c.args.src.now c.loop-part.dst c.args.dst.now c.loop-part.part _
     c.requires.whole refl c.loop-part-test.false c.loop-part.auto.part-end (c.loop-part.invariant.written h) c.loop-part.invariant.rest

@@ -6,9 +6,10 @@ use Rattle.base64_alphabet.proofs.lanes.decode_parts.Given as goal
 -- what was seen and the rest give the answer, and what was written and the rest give the bytes
 abbrev pub invariant-loop-part : goal.invariant-loop-part
 invariant-loop-part g l = record {
-  answer : all_in g.E.Alphabet.table l.src ≡ (l.good && all_in g.E.Alphabet.table (drop (32 * l.part) l.src));
-  written : all_in g.E.Alphabet.table l.src ≡ true → take (24 * l.part) l.dst ++ bytes_of_blocks g.E.Alphabet.end g.E.Alphabet.table (drop (32 * l.part) l.src)
-      ≡ bytes_of_blocks g.E.Alphabet.end g.E.Alphabet.table l.src;
+  answer : all_in g.E.Alphabet.form.table l.src ≡ (l.good && all_in g.E.Alphabet.form.table (drop (32 * l.part) l.src));
+  written : all_in g.E.Alphabet.form.table l.src ≡ true → take (24 * l.part) l.dst
+      ++ bytes_of_blocks g.E.Alphabet.form.end g.E.Alphabet.form.table (drop (32 * l.part) l.src)
+      ≡ bytes_of_blocks g.E.Alphabet.form.end g.E.Alphabet.form.table l.src;
   rest : drop (24 * l.part) l.dst ≡ drop (24 * l.part) l.initial.dst;
   steps : l.steps ≡ l.initial.steps + 32 * l.part;
 }

@@ -13,9 +13,10 @@ returns-clause-answer g c =
     let src = c.args.src.now in
     let n : ℕ = 32 * (length c.args.src.now / 32) in
     let e : to_z w16 (of_z w16 c.bad_as_one.result) ≡ c.bad_as_one.result = omega (arith, ints) in
-    let rest : c.decode_each-rest.result ≡ all_in g.E.Alphabet.table (drop (32 * (length c.args.src.now / 32)) c.args.src.now) =
-    c.decode_each-rest.ensures.answer ∙ ap (all_in g.E.Alphabet.table) (tail_is n src) in
-    e ∙ c.bad_as_one.ensures ∙ ap (λ b. if b then pos 0 else pos 1) ((λ i. c.decode_parts-good.ensures.answer i && rest i) ∙ both_in g.E.Alphabet.table src n)
+    let rest : c.decode_each-rest.result ≡ all_in g.E.Alphabet.form.table (drop (32 * (length c.args.src.now / 32)) c.args.src.now) =
+    c.decode_each-rest.ensures.answer ∙ ap (all_in g.E.Alphabet.form.table) (tail_is n src) in
+    e ∙ c.bad_as_one.ensures ∙ ap (λ b. if b then pos 0 else pos 1) ((λ i. c.decode_parts-good.ensures.answer i && rest i)
+    ∙ both_in g.E.Alphabet.form.table src n)
 
 pub returns-clause-written : goal.returns-clause-written
 returns-clause-written g c h =
@@ -29,14 +30,15 @@ returns-clause-written g c h =
     let whole = c.requires.whole in
     let room = c.requires.room in
     let len = c.decode_parts-good.auto.dst in
-    let two = and_parts (all_in g.E.Alphabet.table (take n src)) (all_in g.E.Alphabet.table (drop n src)) (both_in g.E.Alphabet.table src n ∙ h) in
-    let front = c.decode_parts-good.ensures.written two.0 ∙ ap (λ m. bytes_of_blocks g.E.Alphabet.end g.E.Alphabet.table (take n src)
+    let two = and_parts (all_in g.E.Alphabet.form.table (take n src)) (all_in g.E.Alphabet.form.table (drop n src))
+    (both_in g.E.Alphabet.form.table src n ∙ h) in
+    let front = c.decode_parts-good.ensures.written two.0 ∙ ap (λ m. bytes_of_blocks g.E.Alphabet.form.end g.E.Alphabet.form.table (take n src)
     ++ drop m c.args.dst.now) e in
     let kept = subst (λ m. drop m c.decode_parts-good.new.dst ≡ drop m c.args.dst.now) e c.decode_parts-good.ensures.rest in
-    let more = c.decode_each-rest.ensures.written (ap (all_in g.E.Alphabet.table) (tail_is n src) ∙ two.1)
-    ∙ (λ i. bytes_of_blocks g.E.Alphabet.end g.E.Alphabet.table (tail_is n src i)
+    let more = c.decode_each-rest.ensures.written (ap (all_in g.E.Alphabet.form.table) (tail_is n src) ∙ two.1)
+    ∙ (λ i. bytes_of_blocks g.E.Alphabet.form.end g.E.Alphabet.form.table (tail_is n src i)
     ++ drop (3 * (length (tail_is n src i) / 4)) (tail_is (24 * p) c.decode_parts-good.new.dst i)) in
-    run_written g.E.Alphabet.end g.E.Alphabet.table src c.args.dst.now c.decode_parts-good.new.dst _ c.decode_each-rest.new.dst p
+    run_written g.E.Alphabet.form.end g.E.Alphabet.form.table src c.args.dst.now c.decode_parts-good.new.dst _ c.decode_each-rest.new.dst p
     (3 * (length (drop (32 * (length c.args.src.now / 32)) c.args.src.now) / 4)) (3 * (length c.args.src.now / 4)) (omega arith) (omega arith)
     front kept (put_end (24 * p) c.decode_parts-good.new.dst c.decode_each-rest.new.dst (omega arith)) more
 

@@ -5,4 +5,5 @@ use Rattle.base64_text.proofs.count_laws.unclean_texts_take_one_count.Goals as g
 
 pub returns : goal.returns
 returns g c = λ t u x y same.
-    count_unclean g.E.Alphabet.table g.E.Alphabet.PADDED t x ∙ ap loose_count same ∙ sym (count_unclean g.E.Alphabet.table g.E.Alphabet.PADDED u y)
+    count_unclean g.E.Alphabet.form.table g.E.Alphabet.form.padded t x ∙ ap loose_count same
+    ∙ sym (count_unclean g.E.Alphabet.form.table g.E.Alphabet.form.padded u y)

@@ -16,58 +16,65 @@ use Rattle.base64_text.proofs.decode_text.decode_counting.Goals as goal
 pub returns-then-not-has_whole_blocks-clause-accepted : goal.returns-then-not-has_whole_blocks-clause-accepted
 returns-then-not-has_whole_blocks-clause-accepted g c b bytes text fit =
     let not_whole = c.has_whole_blocks.ensures.no c.if-not-has_whole_blocks.true in
-    no_blocks_text g.E.Alphabet.end g.E.Alphabet.table g.E.Alphabet.PADDED c.args.src.now b (sym c.PADDED.ensures ∙ not_whole.0) not_whole.1 text
+    no_blocks_text g.E.Alphabet.form.end g.E.Alphabet.form.table g.E.Alphabet.form.padded c.args.src.now b
+    (g.met.E.Alphabet.tells_padding ∙ sym c.PADDED.ensures ∙ not_whole.0) not_whole.1 text
 
 pub returns-then-dst-size-clause-accepted : goal.returns-then-dst-size-clause-accepted
 returns-then-dst-size-clause-accepted g c b bytes text fit =
-    let u : c.count_unpadded-u.result ≡ unpadded_len g.E.Alphabet.PADDED c.args.src.now = c.count_unpadded-u.ensures.value
-    ∙ ap (λ (p : Bool). unpadded_len p c.args.src.now) c.PADDED-2.ensures in
-    let is = is_text g.E.Alphabet.end g.E.Alphabet.table g.E.Alphabet.PADDED c.args.src.now b (facts g.E.Alphabet.table g.met.E.Alphabet.lawful) bytes text in
+    let u : c.count_unpadded-u.result ≡ unpadded_len g.E.Alphabet.form.padded c.args.src.now = c.count_unpadded-u.ensures.value
+    ∙ ap (λ (p : Bool). unpadded_len p c.args.src.now) (c.PADDED-2.ensures ∙ sym g.met.E.Alphabet.tells_padding) in
+    let is = is_text g.E.Alphabet.form.end g.E.Alphabet.form.table g.E.Alphabet.form.padded c.args.src.now b
+    (facts g.E.Alphabet.form.table g.met.E.Alphabet.lawful) bytes text in
     let n : length b ≡ decoded_len c.count_unpadded-u.result = sym (ap length is.loose)
-    ∙ length-loose_bytes g.E.Alphabet.end g.E.Alphabet.table c.args.src.now g.E.Alphabet.PADDED ∙ ap decoded_len (sym u) in
+    ∙ length-loose_bytes g.E.Alphabet.form.end g.E.Alphabet.form.table c.args.src.now g.E.Alphabet.form.padded ∙ ap decoded_len (sym u) in
     let short = c.if-dst-size.true in
     omega arith
 
 pub returns-then-not-decode_loose-clause-accepted : goal.returns-then-not-decode_loose-clause-accepted
 returns-then-not-decode_loose-clause-accepted g c b bytes text fit =
-    let is = is_text g.E.Alphabet.end g.E.Alphabet.table g.E.Alphabet.PADDED c.args.src.now b (facts g.E.Alphabet.table g.met.E.Alphabet.lawful) bytes text in
+    let is = is_text g.E.Alphabet.form.end g.E.Alphabet.form.table g.E.Alphabet.form.padded c.args.src.now b
+    (facts g.E.Alphabet.form.table g.met.E.Alphabet.lawful) bytes text in
     both_ways _ (sym c.decode_loose.ensures.clean ∙ c.if-not-decode_loose.true) is.clean
 
 pub returns-then-not-decode_loose-clause-err : goal.returns-then-not-decode_loose-clause-err
 returns-then-not-decode_loose-clause-err g c =
-    let u : c.count_unpadded-u.result ≡ unpadded_len g.E.Alphabet.PADDED c.args.src.now = c.count_unpadded-u.ensures.value
-    ∙ ap (λ (p : Bool). unpadded_len p c.args.src.now) c.PADDED-2.ensures in
-    let whole : HasWholeBlocks g.E.Alphabet.PADDED c.args.src.now = rw (← c.PADDED.ensures) (c.has_whole_blocks.ensures.yes c.if-not-has_whole_blocks.false) in
-    let room : decoded_len (unpadded_len g.E.Alphabet.PADDED c.args.src.now) ≤ length c.args.dst.now = rw (← u) c.if-dst-size.false in
+    let u : c.count_unpadded-u.result ≡ unpadded_len g.E.Alphabet.form.padded c.args.src.now = c.count_unpadded-u.ensures.value
+    ∙ ap (λ (p : Bool). unpadded_len p c.args.src.now) (c.PADDED-2.ensures ∙ sym g.met.E.Alphabet.tells_padding) in
+    let whole : HasWholeBlocks g.E.Alphabet.form.padded c.args.src.now = rw (g.met.E.Alphabet.tells_padding, ← c.PADDED.ensures)
+    (c.has_whole_blocks.ensures.yes c.if-not-has_whole_blocks.false) in
+    let room : decoded_len (unpadded_len g.E.Alphabet.form.padded c.args.src.now) ≤ length c.args.dst.now = rw (← u) c.if-dst-size.false in
     inr (
       whole,
       room,
       λ b bytes text. both_ways _ (sym c.decode_loose.ensures.clean ∙ c.if-not-decode_loose.true)
-          (is_text g.E.Alphabet.end g.E.Alphabet.table g.E.Alphabet.PADDED c.args.src.now b
-          (facts g.E.Alphabet.table g.met.E.Alphabet.lawful) bytes text).clean,
+          (is_text g.E.Alphabet.form.end g.E.Alphabet.form.table g.E.Alphabet.form.padded c.args.src.now b
+          (facts g.E.Alphabet.form.table g.met.E.Alphabet.lawful) bytes text).clean,
     )
 
 pub returns-then-is_empty-clause-ok : goal.returns-then-is_empty-clause-ok
 returns-then-is_empty-clause-ok g c =
-    empty_text g.E.Alphabet.end g.E.Alphabet.table c.args.src.now g.E.Alphabet.PADDED
+    empty_text g.E.Alphabet.form.end g.E.Alphabet.form.table c.args.src.now g.E.Alphabet.form.padded
     (eqb-true (length c.args.src.now) 0 (sym c.is_empty.ensures ∙ c.if-is_empty.true))
 
 pub returns-then-is_empty-clause-accepted : goal.returns-then-is_empty-clause-accepted
 returns-then-is_empty-clause-accepted g c b bytes text fit =
-    sym (empty_value g.E.Alphabet.end g.E.Alphabet.table g.E.Alphabet.PADDED b
+    sym (empty_value g.E.Alphabet.form.end g.E.Alphabet.form.table g.E.Alphabet.form.padded b
     (sym text ∙ no_text c.args.src.now (eqb-true (length c.args.src.now) 0 (sym c.is_empty.ensures ∙ c.if-is_empty.true))))
 
 pub returns-then-not-is_encoding-clause-accepted : goal.returns-then-not-is_encoding-clause-accepted
 returns-then-not-is_encoding-clause-accepted g c b bytes text fit =
-    let u : c.count_unpadded-u.result ≡ unpadded_len g.E.Alphabet.PADDED c.args.src.now = c.count_unpadded-u.ensures.value
-    ∙ ap (λ (p : Bool). unpadded_len p c.args.src.now) c.PADDED-2.ensures in
-    let whole : HasWholeBlocks g.E.Alphabet.PADDED c.args.src.now = rw (← c.PADDED.ensures) (c.has_whole_blocks.ensures.yes c.if-not-has_whole_blocks.false) in
-    let room : decoded_len (unpadded_len g.E.Alphabet.PADDED c.args.src.now) ≤ length c.args.dst.now = rw (← u) c.if-dst-size.false in
-    let clean : is_clean g.E.Alphabet.table g.E.Alphabet.PADDED c.args.src.now ≡ true = sym c.decode_loose.ensures.clean ∙ c.if-not-decode_loose.false in
+    let u : c.count_unpadded-u.result ≡ unpadded_len g.E.Alphabet.form.padded c.args.src.now = c.count_unpadded-u.ensures.value
+    ∙ ap (λ (p : Bool). unpadded_len p c.args.src.now) (c.PADDED-2.ensures ∙ sym g.met.E.Alphabet.tells_padding) in
+    let whole : HasWholeBlocks g.E.Alphabet.form.padded c.args.src.now = rw (g.met.E.Alphabet.tells_padding, ← c.PADDED.ensures)
+    (c.has_whole_blocks.ensures.yes c.if-not-has_whole_blocks.false) in
+    let room : decoded_len (unpadded_len g.E.Alphabet.form.padded c.args.src.now) ≤ length c.args.dst.now = rw (← u) c.if-dst-size.false in
+    let clean : is_clean g.E.Alphabet.form.table g.E.Alphabet.form.padded c.args.src.now ≡ true = sym c.decode_loose.ensures.clean
+    ∙ c.if-not-decode_loose.false in
     let written : take (decoded_len c.count_unpadded-u.result) c.decode_loose.new.dst
-    ≡ loose_bytes g.E.Alphabet.end g.E.Alphabet.table g.E.Alphabet.PADDED c.args.src.now = c.decode_loose.ensures.written clean in
+    ≡ loose_bytes g.E.Alphabet.form c.args.src.now = c.decode_loose.ensures.written clean in
     let ne = eqb-false (length c.args.src.now) 0 (sym c.is_empty.ensures ∙ c.if-is_empty.false) in
-    let l = is_loose g.E.Alphabet.end g.E.Alphabet.table c.args.src.now g.E.Alphabet.PADDED ((length c.args.src.now - 1) / 4) refl (omega (arith, ne)) whole
+    let l = is_loose g.E.Alphabet.form.end g.E.Alphabet.form.table c.args.src.now g.E.Alphabet.form.padded ((length c.args.src.now - 1) / 4) refl
+    (omega (arith, ne)) whole
     clean in
     let size : ℕ = 3 * (c.count_unpadded-u.result / 4) + 3 * (c.count_unpadded-u.result % 4) / 4 in
     let within : 3 * ((length c.args.src.now - 1) / 4) ≤ decoded_len c.count_unpadded-u.result = rw u l.within in
@@ -75,34 +82,37 @@ returns-then-not-is_encoding-clause-accepted g c b bytes text fit =
     ≡ decoded_len c.count_unpadded-u.result = omega arith in
     let last : take (decoded_len c.count_unpadded-u.result - 3 * ((length c.args.src.now - 1) / 4))
     (drop (3 * ((length c.args.src.now - 1) / 4)) c.decode_loose.new.dst)
-    ≡ drop (3 * ((length c.args.src.now - 1) / 4)) (loose_bytes g.E.Alphabet.end g.E.Alphabet.table g.E.Alphabet.PADDED c.args.src.now)
+    ≡ drop (3 * ((length c.args.src.now - 1) / 4)) (loose_bytes g.E.Alphabet.form c.args.src.now)
     = sym (drop-take (3 * ((length c.args.src.now - 1) / 4)) (decoded_len c.count_unpadded-u.result - 3 * ((length c.args.src.now - 1) / 4))
     c.decode_loose.new.dst) ∙ ap (λ n. drop (3 * ((length c.args.src.now - 1) / 4)) (take n c.decode_loose.new.dst)) at
     ∙ ap (drop (3 * ((length c.args.src.now - 1) / 4))) written in
     let block : slice_range c.args.src.now (4 * ((length c.args.src.now - 1) / 4)) (length c.args.src.now)
     ≡ drop (4 * ((length c.args.src.now - 1) / 4)) c.args.src.now = grind (arith, common_steps) in
     let differs : drop (4 * ((length c.args.src.now - 1) / 4)) c.args.src.now
-    ≡ encoding_of g.E.Alphabet.end g.E.Alphabet.table g.E.Alphabet.PADDED
+    ≡ encoding_of g.E.Alphabet.form
     (take (decoded_len c.count_unpadded-u.result - 3 * ((length c.args.src.now - 1) / 4))
     (drop (3 * ((length c.args.src.now - 1) / 4)) c.decode_loose.new.dst)) → ⊥
     = λ e. both_ways _ c.if-not-is_encoding.true (c.is_encoding.ensures.same.1 (block ∙ e)) in
-    let none = none_from_last g.E.Alphabet.end g.E.Alphabet.table c.args.src.now
+    let none = none_from_last g.E.Alphabet.form.end g.E.Alphabet.form.table c.args.src.now
     (take (decoded_len c.count_unpadded-u.result - 3 * ((length c.args.src.now - 1) / 4))
-    (drop (3 * ((length c.args.src.now - 1) / 4)) c.decode_loose.new.dst)) g.E.Alphabet.PADDED ((length c.args.src.now - 1) / 4)
-    (facts g.E.Alphabet.table g.met.E.Alphabet.lawful) refl (omega (arith, ne)) last differs in
+    (drop (3 * ((length c.args.src.now - 1) / 4)) c.decode_loose.new.dst)) g.E.Alphabet.form.padded ((length c.args.src.now - 1) / 4)
+    (facts g.E.Alphabet.form.table g.met.E.Alphabet.lawful) refl (omega (arith, ne)) last differs in
     none b bytes text
 
 pub returns-then-not-is_encoding-clause-err : goal.returns-then-not-is_encoding-clause-err
 returns-then-not-is_encoding-clause-err g c =
-    let u : c.count_unpadded-u.result ≡ unpadded_len g.E.Alphabet.PADDED c.args.src.now = c.count_unpadded-u.ensures.value
-    ∙ ap (λ (p : Bool). unpadded_len p c.args.src.now) c.PADDED-2.ensures in
-    let whole : HasWholeBlocks g.E.Alphabet.PADDED c.args.src.now = rw (← c.PADDED.ensures) (c.has_whole_blocks.ensures.yes c.if-not-has_whole_blocks.false) in
-    let room : decoded_len (unpadded_len g.E.Alphabet.PADDED c.args.src.now) ≤ length c.args.dst.now = rw (← u) c.if-dst-size.false in
-    let clean : is_clean g.E.Alphabet.table g.E.Alphabet.PADDED c.args.src.now ≡ true = sym c.decode_loose.ensures.clean ∙ c.if-not-decode_loose.false in
+    let u : c.count_unpadded-u.result ≡ unpadded_len g.E.Alphabet.form.padded c.args.src.now = c.count_unpadded-u.ensures.value
+    ∙ ap (λ (p : Bool). unpadded_len p c.args.src.now) (c.PADDED-2.ensures ∙ sym g.met.E.Alphabet.tells_padding) in
+    let whole : HasWholeBlocks g.E.Alphabet.form.padded c.args.src.now = rw (g.met.E.Alphabet.tells_padding, ← c.PADDED.ensures)
+    (c.has_whole_blocks.ensures.yes c.if-not-has_whole_blocks.false) in
+    let room : decoded_len (unpadded_len g.E.Alphabet.form.padded c.args.src.now) ≤ length c.args.dst.now = rw (← u) c.if-dst-size.false in
+    let clean : is_clean g.E.Alphabet.form.table g.E.Alphabet.form.padded c.args.src.now ≡ true = sym c.decode_loose.ensures.clean
+    ∙ c.if-not-decode_loose.false in
     let written : take (decoded_len c.count_unpadded-u.result) c.decode_loose.new.dst
-    ≡ loose_bytes g.E.Alphabet.end g.E.Alphabet.table g.E.Alphabet.PADDED c.args.src.now = c.decode_loose.ensures.written clean in
+    ≡ loose_bytes g.E.Alphabet.form c.args.src.now = c.decode_loose.ensures.written clean in
     let ne = eqb-false (length c.args.src.now) 0 (sym c.is_empty.ensures ∙ c.if-is_empty.false) in
-    let l = is_loose g.E.Alphabet.end g.E.Alphabet.table c.args.src.now g.E.Alphabet.PADDED ((length c.args.src.now - 1) / 4) refl (omega (arith, ne)) whole
+    let l = is_loose g.E.Alphabet.form.end g.E.Alphabet.form.table c.args.src.now g.E.Alphabet.form.padded ((length c.args.src.now - 1) / 4) refl
+    (omega (arith, ne)) whole
     clean in
     let size : ℕ = 3 * (c.count_unpadded-u.result / 4) + 3 * (c.count_unpadded-u.result % 4) / 4 in
     let within : 3 * ((length c.args.src.now - 1) / 4) ≤ decoded_len c.count_unpadded-u.result = rw u l.within in
@@ -110,34 +120,37 @@ returns-then-not-is_encoding-clause-err g c =
     ≡ decoded_len c.count_unpadded-u.result = omega arith in
     let last : take (decoded_len c.count_unpadded-u.result - 3 * ((length c.args.src.now - 1) / 4))
     (drop (3 * ((length c.args.src.now - 1) / 4)) c.decode_loose.new.dst)
-    ≡ drop (3 * ((length c.args.src.now - 1) / 4)) (loose_bytes g.E.Alphabet.end g.E.Alphabet.table g.E.Alphabet.PADDED c.args.src.now)
+    ≡ drop (3 * ((length c.args.src.now - 1) / 4)) (loose_bytes g.E.Alphabet.form c.args.src.now)
     = sym (drop-take (3 * ((length c.args.src.now - 1) / 4)) (decoded_len c.count_unpadded-u.result - 3 * ((length c.args.src.now - 1) / 4))
     c.decode_loose.new.dst) ∙ ap (λ n. drop (3 * ((length c.args.src.now - 1) / 4)) (take n c.decode_loose.new.dst)) at
     ∙ ap (drop (3 * ((length c.args.src.now - 1) / 4))) written in
     let block : slice_range c.args.src.now (4 * ((length c.args.src.now - 1) / 4)) (length c.args.src.now)
     ≡ drop (4 * ((length c.args.src.now - 1) / 4)) c.args.src.now = grind (arith, common_steps) in
     let differs : drop (4 * ((length c.args.src.now - 1) / 4)) c.args.src.now
-    ≡ encoding_of g.E.Alphabet.end g.E.Alphabet.table g.E.Alphabet.PADDED
+    ≡ encoding_of g.E.Alphabet.form
     (take (decoded_len c.count_unpadded-u.result - 3 * ((length c.args.src.now - 1) / 4))
     (drop (3 * ((length c.args.src.now - 1) / 4)) c.decode_loose.new.dst)) → ⊥
     = λ e. both_ways _ c.if-not-is_encoding.true (c.is_encoding.ensures.same.1 (block ∙ e)) in
-    let none = none_from_last g.E.Alphabet.end g.E.Alphabet.table c.args.src.now
+    let none = none_from_last g.E.Alphabet.form.end g.E.Alphabet.form.table c.args.src.now
     (take (decoded_len c.count_unpadded-u.result - 3 * ((length c.args.src.now - 1) / 4))
-    (drop (3 * ((length c.args.src.now - 1) / 4)) c.decode_loose.new.dst)) g.E.Alphabet.PADDED ((length c.args.src.now - 1) / 4)
-    (facts g.E.Alphabet.table g.met.E.Alphabet.lawful) refl (omega (arith, ne)) last differs in
+    (drop (3 * ((length c.args.src.now - 1) / 4)) c.decode_loose.new.dst)) g.E.Alphabet.form.padded ((length c.args.src.now - 1) / 4)
+    (facts g.E.Alphabet.form.table g.met.E.Alphabet.lawful) refl (omega (arith, ne)) last differs in
     inr (whole, room, none)
 
 pub returns-then-not-is_encoding-clause-steps : goal.returns-then-not-is_encoding-clause-steps
 returns-then-not-is_encoding-clause-steps g c =
-    let u : c.count_unpadded-u.result ≡ unpadded_len g.E.Alphabet.PADDED c.args.src.now = c.count_unpadded-u.ensures.value
-    ∙ ap (λ (p : Bool). unpadded_len p c.args.src.now) c.PADDED-2.ensures in
-    let whole : HasWholeBlocks g.E.Alphabet.PADDED c.args.src.now = rw (← c.PADDED.ensures) (c.has_whole_blocks.ensures.yes c.if-not-has_whole_blocks.false) in
-    let room : decoded_len (unpadded_len g.E.Alphabet.PADDED c.args.src.now) ≤ length c.args.dst.now = rw (← u) c.if-dst-size.false in
-    let clean : is_clean g.E.Alphabet.table g.E.Alphabet.PADDED c.args.src.now ≡ true = sym c.decode_loose.ensures.clean ∙ c.if-not-decode_loose.false in
+    let u : c.count_unpadded-u.result ≡ unpadded_len g.E.Alphabet.form.padded c.args.src.now = c.count_unpadded-u.ensures.value
+    ∙ ap (λ (p : Bool). unpadded_len p c.args.src.now) (c.PADDED-2.ensures ∙ sym g.met.E.Alphabet.tells_padding) in
+    let whole : HasWholeBlocks g.E.Alphabet.form.padded c.args.src.now = rw (g.met.E.Alphabet.tells_padding, ← c.PADDED.ensures)
+    (c.has_whole_blocks.ensures.yes c.if-not-has_whole_blocks.false) in
+    let room : decoded_len (unpadded_len g.E.Alphabet.form.padded c.args.src.now) ≤ length c.args.dst.now = rw (← u) c.if-dst-size.false in
+    let clean : is_clean g.E.Alphabet.form.table g.E.Alphabet.form.padded c.args.src.now ≡ true = sym c.decode_loose.ensures.clean
+    ∙ c.if-not-decode_loose.false in
     let written : take (decoded_len c.count_unpadded-u.result) c.decode_loose.new.dst
-    ≡ loose_bytes g.E.Alphabet.end g.E.Alphabet.table g.E.Alphabet.PADDED c.args.src.now = c.decode_loose.ensures.written clean in
+    ≡ loose_bytes g.E.Alphabet.form c.args.src.now = c.decode_loose.ensures.written clean in
     let ne = eqb-false (length c.args.src.now) 0 (sym c.is_empty.ensures ∙ c.if-is_empty.false) in
-    let l = is_loose g.E.Alphabet.end g.E.Alphabet.table c.args.src.now g.E.Alphabet.PADDED ((length c.args.src.now - 1) / 4) refl (omega (arith, ne)) whole
+    let l = is_loose g.E.Alphabet.form.end g.E.Alphabet.form.table c.args.src.now g.E.Alphabet.form.padded ((length c.args.src.now - 1) / 4) refl
+    (omega (arith, ne)) whole
     clean in
     let size : ℕ = 3 * (c.count_unpadded-u.result / 4) + 3 * (c.count_unpadded-u.result % 4) / 4 in
     let within : 3 * ((length c.args.src.now - 1) / 4) ≤ decoded_len c.count_unpadded-u.result = rw u l.within in
@@ -145,7 +158,7 @@ returns-then-not-is_encoding-clause-steps g c =
     ≡ decoded_len c.count_unpadded-u.result = omega arith in
     let last : take (decoded_len c.count_unpadded-u.result - 3 * ((length c.args.src.now - 1) / 4))
     (drop (3 * ((length c.args.src.now - 1) / 4)) c.decode_loose.new.dst)
-    ≡ drop (3 * ((length c.args.src.now - 1) / 4)) (loose_bytes g.E.Alphabet.end g.E.Alphabet.table g.E.Alphabet.PADDED c.args.src.now)
+    ≡ drop (3 * ((length c.args.src.now - 1) / 4)) (loose_bytes g.E.Alphabet.form c.args.src.now)
     = sym (drop-take (3 * ((length c.args.src.now - 1) / 4)) (decoded_len c.count_unpadded-u.result - 3 * ((length c.args.src.now - 1) / 4))
     c.decode_loose.new.dst) ∙ ap (λ n. drop (3 * ((length c.args.src.now - 1) / 4)) (take n c.decode_loose.new.dst)) at
     ∙ ap (drop (3 * ((length c.args.src.now - 1) / 4))) written in
@@ -160,28 +173,31 @@ returns-then-not-is_encoding-clause-steps g c =
     (let d = length-drop (3 * ((length c.args.src.now - 1) / 4)) c.decode_loose.new.dst in let r = c.if-dst-size.false in omega arith) in
     let k : length (take (decoded_len c.count_unpadded-u.result - 3 * ((length c.args.src.now - 1) / 4))
     (drop (3 * ((length c.args.src.now - 1) / 4)) c.decode_loose.new.dst))
-    ≡ decoded_len (unpadded_len g.E.Alphabet.PADDED c.args.src.now) - 3 * ((length c.args.src.now - 1) / 4) = few
+    ≡ decoded_len (unpadded_len g.E.Alphabet.form.padded c.args.src.now) - 3 * ((length c.args.src.now - 1) / 4) = few
     ∙ ap (λ n. decoded_len n - 3 * ((length c.args.src.now - 1) / 4)) u in
-    let count = count_clean g.E.Alphabet.table g.E.Alphabet.PADDED c.args.src.now
-    (decoded_len (unpadded_len g.E.Alphabet.PADDED c.args.src.now) - 3 * ((length c.args.src.now - 1) / 4)) clean ne l.some l.few l.whole in
-    let first : c.decode_loose.new.steps ≡ c.args.steps.now + loose_count (unpadded_len g.E.Alphabet.PADDED c.args.src.now) = c.decode_loose.ensures.steps
+    let count = count_clean g.E.Alphabet.form.table g.E.Alphabet.form.padded c.args.src.now
+    (decoded_len (unpadded_len g.E.Alphabet.form.padded c.args.src.now) - 3 * ((length c.args.src.now - 1) / 4)) clean ne l.some l.few l.whole in
+    let first : c.decode_loose.new.steps ≡ c.args.steps.now + loose_count (unpadded_len g.E.Alphabet.form.padded c.args.src.now) = c.decode_loose.ensures.steps
     ∙ ap (λ n. c.args.steps.now + loose_count n) u in
     let second : c.is_encoding.new.steps ≡ c.decode_loose.new.steps
-    + encode_count g.E.Alphabet.PADDED (decoded_len (unpadded_len g.E.Alphabet.PADDED c.args.src.now) - 3 * ((length c.args.src.now - 1) / 4)) =
-    c.is_encoding.ensures.steps ∙ ap (λ n. c.decode_loose.new.steps + encode_count g.E.Alphabet.PADDED n) k in
-    rw (lengths_hold g.E.Alphabet.PADDED c.args.src.now (length c.args.dst.now) whole room, ← count, second, first) (omega arith)
+    + encode_count g.E.Alphabet.form.padded (decoded_len (unpadded_len g.E.Alphabet.form.padded c.args.src.now) - 3 * ((length c.args.src.now - 1) / 4)) =
+    c.is_encoding.ensures.steps ∙ ap (λ n. c.decode_loose.new.steps + encode_count g.E.Alphabet.form.padded n) k in
+    rw (lengths_hold g.E.Alphabet.form.padded c.args.src.now (length c.args.dst.now) whole room, ← count, second, first) (omega arith)
 
 pub returns-clause-ok : goal.returns-clause-ok
 returns-clause-ok g c =
-    let u : c.count_unpadded-u.result ≡ unpadded_len g.E.Alphabet.PADDED c.args.src.now = c.count_unpadded-u.ensures.value
-    ∙ ap (λ (p : Bool). unpadded_len p c.args.src.now) c.PADDED-2.ensures in
-    let whole : HasWholeBlocks g.E.Alphabet.PADDED c.args.src.now = rw (← c.PADDED.ensures) (c.has_whole_blocks.ensures.yes c.if-not-has_whole_blocks.false) in
-    let room : decoded_len (unpadded_len g.E.Alphabet.PADDED c.args.src.now) ≤ length c.args.dst.now = rw (← u) c.if-dst-size.false in
-    let clean : is_clean g.E.Alphabet.table g.E.Alphabet.PADDED c.args.src.now ≡ true = sym c.decode_loose.ensures.clean ∙ c.if-not-decode_loose.false in
+    let u : c.count_unpadded-u.result ≡ unpadded_len g.E.Alphabet.form.padded c.args.src.now = c.count_unpadded-u.ensures.value
+    ∙ ap (λ (p : Bool). unpadded_len p c.args.src.now) (c.PADDED-2.ensures ∙ sym g.met.E.Alphabet.tells_padding) in
+    let whole : HasWholeBlocks g.E.Alphabet.form.padded c.args.src.now = rw (g.met.E.Alphabet.tells_padding, ← c.PADDED.ensures)
+    (c.has_whole_blocks.ensures.yes c.if-not-has_whole_blocks.false) in
+    let room : decoded_len (unpadded_len g.E.Alphabet.form.padded c.args.src.now) ≤ length c.args.dst.now = rw (← u) c.if-dst-size.false in
+    let clean : is_clean g.E.Alphabet.form.table g.E.Alphabet.form.padded c.args.src.now ≡ true = sym c.decode_loose.ensures.clean
+    ∙ c.if-not-decode_loose.false in
     let written : take (decoded_len c.count_unpadded-u.result) c.decode_loose.new.dst
-    ≡ loose_bytes g.E.Alphabet.end g.E.Alphabet.table g.E.Alphabet.PADDED c.args.src.now = c.decode_loose.ensures.written clean in
+    ≡ loose_bytes g.E.Alphabet.form c.args.src.now = c.decode_loose.ensures.written clean in
     let ne = eqb-false (length c.args.src.now) 0 (sym c.is_empty.ensures ∙ c.if-is_empty.false) in
-    let l = is_loose g.E.Alphabet.end g.E.Alphabet.table c.args.src.now g.E.Alphabet.PADDED ((length c.args.src.now - 1) / 4) refl (omega (arith, ne)) whole
+    let l = is_loose g.E.Alphabet.form.end g.E.Alphabet.form.table c.args.src.now g.E.Alphabet.form.padded ((length c.args.src.now - 1) / 4) refl
+    (omega (arith, ne)) whole
     clean in
     let size : ℕ = 3 * (c.count_unpadded-u.result / 4) + 3 * (c.count_unpadded-u.result % 4) / 4 in
     let within : 3 * ((length c.args.src.now - 1) / 4) ≤ decoded_len c.count_unpadded-u.result = rw u l.within in
@@ -189,44 +205,49 @@ returns-clause-ok g c =
     ≡ decoded_len c.count_unpadded-u.result = omega arith in
     let last : take (decoded_len c.count_unpadded-u.result - 3 * ((length c.args.src.now - 1) / 4))
     (drop (3 * ((length c.args.src.now - 1) / 4)) c.decode_loose.new.dst)
-    ≡ drop (3 * ((length c.args.src.now - 1) / 4)) (loose_bytes g.E.Alphabet.end g.E.Alphabet.table g.E.Alphabet.PADDED c.args.src.now)
+    ≡ drop (3 * ((length c.args.src.now - 1) / 4)) (loose_bytes g.E.Alphabet.form c.args.src.now)
     = sym (drop-take (3 * ((length c.args.src.now - 1) / 4)) (decoded_len c.count_unpadded-u.result - 3 * ((length c.args.src.now - 1) / 4))
     c.decode_loose.new.dst) ∙ ap (λ n. drop (3 * ((length c.args.src.now - 1) / 4)) (take n c.decode_loose.new.dst)) at
     ∙ ap (drop (3 * ((length c.args.src.now - 1) / 4))) written in
     let block : slice_range c.args.src.now (4 * ((length c.args.src.now - 1) / 4)) (length c.args.src.now)
     ≡ drop (4 * ((length c.args.src.now - 1) / 4)) c.args.src.now = grind (arith, common_steps) in
     let same : drop (4 * ((length c.args.src.now - 1) / 4)) c.args.src.now
-    ≡ encoding_of g.E.Alphabet.end g.E.Alphabet.table g.E.Alphabet.PADDED
+    ≡ encoding_of g.E.Alphabet.form
     (take (decoded_len c.count_unpadded-u.result - 3 * ((length c.args.src.now - 1) / 4))
     (drop (3 * ((length c.args.src.now - 1) / 4)) c.decode_loose.new.dst))
     = sym block ∙ c.is_encoding.ensures.same.0 c.if-not-is_encoding.false in
-    let text = text_from_last g.E.Alphabet.end g.E.Alphabet.table c.args.src.now
+    let text = text_from_last g.E.Alphabet.form.end g.E.Alphabet.form.table c.args.src.now
     (take (decoded_len c.count_unpadded-u.result - 3 * ((length c.args.src.now - 1) / 4))
-    (drop (3 * ((length c.args.src.now - 1) / 4)) c.decode_loose.new.dst)) g.E.Alphabet.PADDED ((length c.args.src.now - 1) / 4)
-    (facts g.E.Alphabet.table g.met.E.Alphabet.lawful) refl (omega (arith, ne)) l last same in
-    text ∙ ap (encoding_of g.E.Alphabet.end g.E.Alphabet.table g.E.Alphabet.PADDED) (sym written)
+    (drop (3 * ((length c.args.src.now - 1) / 4)) c.decode_loose.new.dst)) g.E.Alphabet.form.padded ((length c.args.src.now - 1) / 4)
+    (facts g.E.Alphabet.form.table g.met.E.Alphabet.lawful) refl (omega (arith, ne)) l last same in
+    text ∙ ap (encoding_of g.E.Alphabet.form) (sym written)
 
 pub returns-clause-accepted : goal.returns-clause-accepted
 returns-clause-accepted g c b bytes text fit =
-    let u : c.count_unpadded-u.result ≡ unpadded_len g.E.Alphabet.PADDED c.args.src.now = c.count_unpadded-u.ensures.value
-    ∙ ap (λ (p : Bool). unpadded_len p c.args.src.now) c.PADDED-2.ensures in
-    let clean : is_clean g.E.Alphabet.table g.E.Alphabet.PADDED c.args.src.now ≡ true = sym c.decode_loose.ensures.clean ∙ c.if-not-decode_loose.false in
+    let u : c.count_unpadded-u.result ≡ unpadded_len g.E.Alphabet.form.padded c.args.src.now = c.count_unpadded-u.ensures.value
+    ∙ ap (λ (p : Bool). unpadded_len p c.args.src.now) (c.PADDED-2.ensures ∙ sym g.met.E.Alphabet.tells_padding) in
+    let clean : is_clean g.E.Alphabet.form.table g.E.Alphabet.form.padded c.args.src.now ≡ true = sym c.decode_loose.ensures.clean
+    ∙ c.if-not-decode_loose.false in
     let written : take (decoded_len c.count_unpadded-u.result) c.decode_loose.new.dst
-    ≡ loose_bytes g.E.Alphabet.end g.E.Alphabet.table g.E.Alphabet.PADDED c.args.src.now = c.decode_loose.ensures.written clean in
-    written ∙ (is_text g.E.Alphabet.end g.E.Alphabet.table g.E.Alphabet.PADDED c.args.src.now b (facts g.E.Alphabet.table g.met.E.Alphabet.lawful) bytes
+    ≡ loose_bytes g.E.Alphabet.form c.args.src.now = c.decode_loose.ensures.written clean in
+    written ∙ (is_text g.E.Alphabet.form.end g.E.Alphabet.form.table g.E.Alphabet.form.padded c.args.src.now b
+    (facts g.E.Alphabet.form.table g.met.E.Alphabet.lawful) bytes
     text).loose
 
 pub returns-clause-steps : goal.returns-clause-steps
 returns-clause-steps g c =
-    let u : c.count_unpadded-u.result ≡ unpadded_len g.E.Alphabet.PADDED c.args.src.now = c.count_unpadded-u.ensures.value
-    ∙ ap (λ (p : Bool). unpadded_len p c.args.src.now) c.PADDED-2.ensures in
-    let whole : HasWholeBlocks g.E.Alphabet.PADDED c.args.src.now = rw (← c.PADDED.ensures) (c.has_whole_blocks.ensures.yes c.if-not-has_whole_blocks.false) in
-    let room : decoded_len (unpadded_len g.E.Alphabet.PADDED c.args.src.now) ≤ length c.args.dst.now = rw (← u) c.if-dst-size.false in
-    let clean : is_clean g.E.Alphabet.table g.E.Alphabet.PADDED c.args.src.now ≡ true = sym c.decode_loose.ensures.clean ∙ c.if-not-decode_loose.false in
+    let u : c.count_unpadded-u.result ≡ unpadded_len g.E.Alphabet.form.padded c.args.src.now = c.count_unpadded-u.ensures.value
+    ∙ ap (λ (p : Bool). unpadded_len p c.args.src.now) (c.PADDED-2.ensures ∙ sym g.met.E.Alphabet.tells_padding) in
+    let whole : HasWholeBlocks g.E.Alphabet.form.padded c.args.src.now = rw (g.met.E.Alphabet.tells_padding, ← c.PADDED.ensures)
+    (c.has_whole_blocks.ensures.yes c.if-not-has_whole_blocks.false) in
+    let room : decoded_len (unpadded_len g.E.Alphabet.form.padded c.args.src.now) ≤ length c.args.dst.now = rw (← u) c.if-dst-size.false in
+    let clean : is_clean g.E.Alphabet.form.table g.E.Alphabet.form.padded c.args.src.now ≡ true = sym c.decode_loose.ensures.clean
+    ∙ c.if-not-decode_loose.false in
     let written : take (decoded_len c.count_unpadded-u.result) c.decode_loose.new.dst
-    ≡ loose_bytes g.E.Alphabet.end g.E.Alphabet.table g.E.Alphabet.PADDED c.args.src.now = c.decode_loose.ensures.written clean in
+    ≡ loose_bytes g.E.Alphabet.form c.args.src.now = c.decode_loose.ensures.written clean in
     let ne = eqb-false (length c.args.src.now) 0 (sym c.is_empty.ensures ∙ c.if-is_empty.false) in
-    let l = is_loose g.E.Alphabet.end g.E.Alphabet.table c.args.src.now g.E.Alphabet.PADDED ((length c.args.src.now - 1) / 4) refl (omega (arith, ne)) whole
+    let l = is_loose g.E.Alphabet.form.end g.E.Alphabet.form.table c.args.src.now g.E.Alphabet.form.padded ((length c.args.src.now - 1) / 4) refl
+    (omega (arith, ne)) whole
     clean in
     let size : ℕ = 3 * (c.count_unpadded-u.result / 4) + 3 * (c.count_unpadded-u.result % 4) / 4 in
     let within : 3 * ((length c.args.src.now - 1) / 4) ≤ decoded_len c.count_unpadded-u.result = rw u l.within in
@@ -234,7 +255,7 @@ returns-clause-steps g c =
     ≡ decoded_len c.count_unpadded-u.result = omega arith in
     let last : take (decoded_len c.count_unpadded-u.result - 3 * ((length c.args.src.now - 1) / 4))
     (drop (3 * ((length c.args.src.now - 1) / 4)) c.decode_loose.new.dst)
-    ≡ drop (3 * ((length c.args.src.now - 1) / 4)) (loose_bytes g.E.Alphabet.end g.E.Alphabet.table g.E.Alphabet.PADDED c.args.src.now)
+    ≡ drop (3 * ((length c.args.src.now - 1) / 4)) (loose_bytes g.E.Alphabet.form c.args.src.now)
     = sym (drop-take (3 * ((length c.args.src.now - 1) / 4)) (decoded_len c.count_unpadded-u.result - 3 * ((length c.args.src.now - 1) / 4))
     c.decode_loose.new.dst) ∙ ap (λ n. drop (3 * ((length c.args.src.now - 1) / 4)) (take n c.decode_loose.new.dst)) at
     ∙ ap (drop (3 * ((length c.args.src.now - 1) / 4))) written in
@@ -249,28 +270,30 @@ returns-clause-steps g c =
     (let d = length-drop (3 * ((length c.args.src.now - 1) / 4)) c.decode_loose.new.dst in let r = c.if-dst-size.false in omega arith) in
     let k : length (take (decoded_len c.count_unpadded-u.result - 3 * ((length c.args.src.now - 1) / 4))
     (drop (3 * ((length c.args.src.now - 1) / 4)) c.decode_loose.new.dst))
-    ≡ decoded_len (unpadded_len g.E.Alphabet.PADDED c.args.src.now) - 3 * ((length c.args.src.now - 1) / 4) = few
+    ≡ decoded_len (unpadded_len g.E.Alphabet.form.padded c.args.src.now) - 3 * ((length c.args.src.now - 1) / 4) = few
     ∙ ap (λ n. decoded_len n - 3 * ((length c.args.src.now - 1) / 4)) u in
-    let count = count_clean g.E.Alphabet.table g.E.Alphabet.PADDED c.args.src.now
-    (decoded_len (unpadded_len g.E.Alphabet.PADDED c.args.src.now) - 3 * ((length c.args.src.now - 1) / 4)) clean ne l.some l.few l.whole in
-    let first : c.decode_loose.new.steps ≡ c.args.steps.now + loose_count (unpadded_len g.E.Alphabet.PADDED c.args.src.now) = c.decode_loose.ensures.steps
+    let count = count_clean g.E.Alphabet.form.table g.E.Alphabet.form.padded c.args.src.now
+    (decoded_len (unpadded_len g.E.Alphabet.form.padded c.args.src.now) - 3 * ((length c.args.src.now - 1) / 4)) clean ne l.some l.few l.whole in
+    let first : c.decode_loose.new.steps ≡ c.args.steps.now + loose_count (unpadded_len g.E.Alphabet.form.padded c.args.src.now) = c.decode_loose.ensures.steps
     ∙ ap (λ n. c.args.steps.now + loose_count n) u in
     let second : c.is_encoding.new.steps ≡ c.decode_loose.new.steps
-    + encode_count g.E.Alphabet.PADDED (decoded_len (unpadded_len g.E.Alphabet.PADDED c.args.src.now) - 3 * ((length c.args.src.now - 1) / 4)) =
-    c.is_encoding.ensures.steps ∙ ap (λ n. c.decode_loose.new.steps + encode_count g.E.Alphabet.PADDED n) k in
-    rw (lengths_hold g.E.Alphabet.PADDED c.args.src.now (length c.args.dst.now) whole room, ← count, second, first) (omega arith)
+    + encode_count g.E.Alphabet.form.padded (decoded_len (unpadded_len g.E.Alphabet.form.padded c.args.src.now) - 3 * ((length c.args.src.now - 1) / 4)) =
+    c.is_encoding.ensures.steps ∙ ap (λ n. c.decode_loose.new.steps + encode_count g.E.Alphabet.form.padded n) k in
+    rw (lengths_hold g.E.Alphabet.form.padded c.args.src.now (length c.args.dst.now) whole room, ← count, second, first) (omega arith)
 
 pub returns-then-is_empty-clause-value : goal.returns-then-is_empty-clause-value
 returns-then-is_empty-clause-value g c b bytes text =
-    sym (empty_value g.E.Alphabet.end g.E.Alphabet.table g.E.Alphabet.PADDED b
+    sym (empty_value g.E.Alphabet.form.end g.E.Alphabet.form.table g.E.Alphabet.form.padded b
     (sym text ∙ no_text c.args.src.now (eqb-true (length c.args.src.now) 0 (sym c.is_empty.ensures ∙ c.if-is_empty.true))))
 
 pub returns-clause-value : goal.returns-clause-value
 returns-clause-value g c b bytes text =
-    let u : c.count_unpadded-u.result ≡ unpadded_len g.E.Alphabet.PADDED c.args.src.now = c.count_unpadded-u.ensures.value
-    ∙ ap (λ (p : Bool). unpadded_len p c.args.src.now) c.PADDED-2.ensures in
-    let clean : is_clean g.E.Alphabet.table g.E.Alphabet.PADDED c.args.src.now ≡ true = sym c.decode_loose.ensures.clean ∙ c.if-not-decode_loose.false in
+    let u : c.count_unpadded-u.result ≡ unpadded_len g.E.Alphabet.form.padded c.args.src.now = c.count_unpadded-u.ensures.value
+    ∙ ap (λ (p : Bool). unpadded_len p c.args.src.now) (c.PADDED-2.ensures ∙ sym g.met.E.Alphabet.tells_padding) in
+    let clean : is_clean g.E.Alphabet.form.table g.E.Alphabet.form.padded c.args.src.now ≡ true = sym c.decode_loose.ensures.clean
+    ∙ c.if-not-decode_loose.false in
     let written : take (decoded_len c.count_unpadded-u.result) c.decode_loose.new.dst
-    ≡ loose_bytes g.E.Alphabet.end g.E.Alphabet.table g.E.Alphabet.PADDED c.args.src.now = c.decode_loose.ensures.written clean in
-    written ∙ (is_text g.E.Alphabet.end g.E.Alphabet.table g.E.Alphabet.PADDED c.args.src.now b (facts g.E.Alphabet.table g.met.E.Alphabet.lawful) bytes
+    ≡ loose_bytes g.E.Alphabet.form c.args.src.now = c.decode_loose.ensures.written clean in
+    written ∙ (is_text g.E.Alphabet.form.end g.E.Alphabet.form.table g.E.Alphabet.form.padded c.args.src.now b
+    (facts g.E.Alphabet.form.table g.met.E.Alphabet.lawful) bytes
     text).loose

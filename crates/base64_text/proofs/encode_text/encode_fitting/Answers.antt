@@ -9,4 +9,5 @@ pub returns-clause-ascii : goal.returns-clause-ascii
 returns-clause-ascii g c =
     let bytes : IsBytes c.args.src.now = λ k d lt. rw (get_or_default_zero c.args.src.now k d lt) ((c.type_inv.src k).fits) in
     subst (λ (xs : List ℕ). IsAscii xs) (sym c.encode_into.ensures.text)
-    (encoding_ascii g.E.Alphabet.end g.E.Alphabet.table g.E.Alphabet.PADDED c.args.src.now (facts g.E.Alphabet.table g.met.E.Alphabet.lawful) bytes)
+    (encoding_ascii g.E.Alphabet.form.end g.E.Alphabet.form.table g.E.Alphabet.form.padded c.args.src.now
+    (facts g.E.Alphabet.form.table g.met.E.Alphabet.lawful) bytes)

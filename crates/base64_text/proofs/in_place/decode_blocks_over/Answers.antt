@@ -21,8 +21,8 @@ loop-done-preserved g c =
     let e : 4 * c.loop-done.done + 4 * c.min-count.result ≡ 4 * (c.loop-done.done + c.min-count.result) = omega arith in
     let most : c.loop-done.done + c.min-count.result ≤ c.args.blocks = (let m = c.min-count.ensures in let t = c.loop-done-test.true in omega arith) in
     let enough = c.requires in
-    let more : c.decode_part_over-good.result ≡ all_in g.E.Alphabet.table (take (4 * c.min-count.result) (drop (4 * c.loop-done.done) c.args.buf.now))
-    = part.answer ∙ ap (λ (us : List ℕ). all_in g.E.Alphabet.table (take (4 * c.min-count.result) us)) inv.rest in
+    let more : c.decode_part_over-good.result ≡ all_in g.E.Alphabet.form.table (take (4 * c.min-count.result) (drop (4 * c.loop-done.done) c.args.buf.now))
+    = part.answer ∙ ap (λ (us : List ℕ). all_in g.E.Alphabet.form.table (take (4 * c.min-count.result) us)) inv.rest in
     let behind : drop (4 * (c.loop-done.done + c.min-count.result)) c.loop-done.buf ≡ drop (4 * (c.loop-done.done + c.min-count.result)) c.args.buf.now
     = ap (λ (n : ℕ). drop n c.loop-done.buf) (sym e) ∙ sym (drop-drop (4 * c.min-count.result) (4 * c.loop-done.done) c.loop-done.buf)
     ∙ ap (drop (4 * c.min-count.result)) inv.rest
@@ -30,17 +30,17 @@ loop-done-preserved g c =
     record {
       few = most;
       answer = ap (λ (b : Bool). b && c.decode_part_over-good.result) inv.answer
-          ∙ ap (λ (b : Bool). all_in g.E.Alphabet.table (take (4 * c.loop-done.done) c.args.buf.now) && b) more
-          ∙ sym (ap (all_in g.E.Alphabet.table) (take_blocks_plus c.loop-done.done c.min-count.result c.args.buf.now)
-          ∙ all_in-append g.E.Alphabet.table (take (4 * c.loop-done.done) c.args.buf.now)
+          ∙ ap (λ (b : Bool). all_in g.E.Alphabet.form.table (take (4 * c.loop-done.done) c.args.buf.now) && b) more
+          ∙ sym (ap (all_in g.E.Alphabet.form.table) (take_blocks_plus c.loop-done.done c.min-count.result c.args.buf.now)
+          ∙ all_in-append g.E.Alphabet.form.table (take (4 * c.loop-done.done) c.args.buf.now)
           (take (4 * c.min-count.result) (drop (4 * c.loop-done.done) c.args.buf.now)));
       written = λ h. (let parts = and_parts c.loop-done.good c.decode_part_over-good.result h in
           part.written parts.1
-          ∙ ap (λ us. us ++ bytes_of_blocks g.E.Alphabet.end g.E.Alphabet.table
+          ∙ ap (λ us. us ++ bytes_of_blocks g.E.Alphabet.form.end g.E.Alphabet.form.table
           (take (4 * c.min-count.result) (drop (4 * c.loop-done.done) c.loop-done.buf))) (inv.written parts.0)
-          ∙ ap (λ (us : List ℕ). bytes_of_blocks g.E.Alphabet.end g.E.Alphabet.table (take (4 * c.loop-done.done) c.args.buf.now)
-          ++ bytes_of_blocks g.E.Alphabet.end g.E.Alphabet.table (take (4 * c.min-count.result) us)) inv.rest
-          ∙ sym (blocks_plus g.E.Alphabet.end g.E.Alphabet.table c.loop-done.done c.min-count.result c.args.buf.now (omega arith)));
+          ∙ ap (λ (us : List ℕ). bytes_of_blocks g.E.Alphabet.form.end g.E.Alphabet.form.table (take (4 * c.loop-done.done) c.args.buf.now)
+          ++ bytes_of_blocks g.E.Alphabet.form.end g.E.Alphabet.form.table (take (4 * c.min-count.result) us)) inv.rest
+          ∙ sym (blocks_plus g.E.Alphabet.form.end g.E.Alphabet.form.table c.loop-done.done c.min-count.result c.args.buf.now (omega arith)));
       rest = part.rest ∙ behind;
       steps = (let s = part.steps in let t = inv.steps in omega arith);
     }

@@ -8,7 +8,7 @@ pub returns-then-input-missing-clause-text : goal.returns-then-input-missing-cla
 returns-then-input-missing-clause-text g c =
     let l = length-append (take c.args.waiting c.args.block.now) c.args.input.now in
     let k = length-take-le c.args.waiting c.args.block.now (omega arith) in
-    no_group g.E.Alphabet.end g.E.Alphabet.table (take c.args.waiting c.args.block.now ++ c.args.input.now) c.args.out.now (omega arith) (omega arith)
+    no_group g.E.Alphabet.form.end g.E.Alphabet.form.table (take c.args.waiting c.args.block.now ++ c.args.input.now) c.args.out.now (omega arith) (omega arith)
 
 pub returns-clause-text : goal.returns-clause-text
 returns-clause-text g c =
@@ -18,7 +18,8 @@ returns-clause-text g c =
     let whole = length-append c.encode_front.new.dst (drop 4 c.args.out.now) in
     let back : length (drop 4 c.args.out.now) ≡ length c.args.out.now - 4 = length-drop 4 c.args.out.now in
     let d = length-drop 4 (c.encode_front.new.dst ++ drop 4 c.args.out.now) in
-    groups_written g.E.Alphabet.end g.E.Alphabet.table g.E.Alphabet.PADDED c.args.waiting c.encode_front.result c.encode_front-2.result c.args.block.now
+    groups_written g.E.Alphabet.form.end g.E.Alphabet.form.table g.E.Alphabet.form.padded c.args.waiting c.encode_front.result c.encode_front-2.result
+    c.args.block.now
     c.args.input.now
     c.split_at.result.0.now c.split_at.result.1.now c.split_at-2.result.0.now c.copy_from_slice-2.new.self c.args.out.now c.encode_front.new.dst
     c.encode_front-2.new.dst

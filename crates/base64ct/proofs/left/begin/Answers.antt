@@ -44,7 +44,7 @@ returns-in_default-decode_last-clause-err g c ends canonical =
     let block : take (c.in-Some.cut.count + length c.in-Some.cut.rest.now - 4 * ((c.in-Some.cut.count + length c.in-Some.cut.rest.now - 1) / 4))
     c.last_block-block.result ≡ drop (last_at (length (joined c.args.width c.args.text.now))) (joined c.args.width c.args.text.now) =
     c.last_block-block.ensures.block ∙ b.3 in
-    no_end g.E.Alphabet.end g.E.Alphabet.table g.E.Alphabet.PADDED (joined c.args.width c.args.text.now)
+    no_end g.E.Alphabet.form.end g.E.Alphabet.form.table g.E.Alphabet.form.padded (joined c.args.width c.args.text.now)
     (take (c.in-Some.cut.count + length c.in-Some.cut.rest.now - 4 * ((c.in-Some.cut.count + length c.in-Some.cut.rest.now - 1) / 4))
     c.last_block-block.result) block c.in_default-decode_last.ensures.none canonical
 
@@ -73,15 +73,15 @@ returns-clause-items g c =
     c.last_block-block.result ≡ drop (last_at (length (joined c.args.width c.args.text.now))) (joined c.args.width c.args.text.now) =
     c.last_block-block.ensures.block ∙ b.3 in
     let is : drop (last_at (length (joined c.args.width c.args.text.now))) (joined c.args.width c.args.text.now)
-    ≡ encoding_of g.E.Alphabet.end g.E.Alphabet.table g.E.Alphabet.PADDED (take c.in-Some-decode_last.end c.decode_last.new.out)
+    ≡ encoding_of g.E.Alphabet.form (take c.in-Some-decode_last.end c.decode_last.new.out)
     = sym block ∙ c.in-Some-decode_last.ensures.some in
     let len = j.len in
     let some = j.some in
     let low : 0 < length (joined c.args.width c.args.text.now) = omega arith in
-    first_items g.E.Alphabet.end g.E.Alphabet.table g.E.Alphabet.PADDED (joined c.args.width c.args.text.now)
+    first_items g.E.Alphabet.form.end g.E.Alphabet.form.table g.E.Alphabet.form.padded (joined c.args.width c.args.text.now)
     (joined_from c.args.width c.args.width false c.args.text.now)
     (few_bytes c.no_bytes.result) (take c.in-Some-decode_last.end c.decode_last.new.out) ((c.in-Some.cut.count + length c.in-Some.cut.rest.now - 1) / 4)
-    (facts g.E.Alphabet.table g.met.E.Alphabet.lawful)
+    (facts g.E.Alphabet.form.table g.met.E.Alphabet.lawful)
     low j.walk (ap (λ n. (n - 1) / 4) (sym len)) c.no_bytes.ensures.none c.in-Some-decode_last.ensures.bytes is
 
 pub returns-clause-len : goal.returns-clause-len
@@ -94,7 +94,8 @@ returns-clause-len g c =
     let most = c.in-Some-decode_last.ensures.most in
     let three : length c.decode_last.new.out ≡ 3 = c.decode_last.array_long in
     let last = length-take-le c.in-Some-decode_last.end c.decode_last.new.out (omega arith) in
-    let all = length-left g.E.Alphabet.end g.E.Alphabet.table (few_bytes c.no_bytes.result) (joined_from c.args.width c.args.width false c.args.text.now)
+    let all = length-left g.E.Alphabet.form.end g.E.Alphabet.form.table (few_bytes c.no_bytes.result)
+    (joined_from c.args.width c.args.width false c.args.text.now)
     (take c.in-Some-decode_last.end c.decode_last.new.out)
     ((c.in-Some.cut.count + length c.in-Some.cut.rest.now - 1) / 4) (omega arith) in
     omega arith
@@ -114,6 +115,6 @@ returns-clause-canonical g c =
     c.last_block-block.result ≡ drop (last_at (length (joined c.args.width c.args.text.now))) (joined c.args.width c.args.text.now) =
     c.last_block-block.ensures.block ∙ b.3 in
     let is : drop (last_at (length (joined c.args.width c.args.text.now))) (joined c.args.width c.args.text.now)
-    ≡ encoding_of g.E.Alphabet.end g.E.Alphabet.table g.E.Alphabet.PADDED (take c.in-Some-decode_last.end c.decode_last.new.out)
+    ≡ encoding_of g.E.Alphabet.form (take c.in-Some-decode_last.end c.decode_last.new.out)
     = sym block ∙ c.in-Some-decode_last.ensures.some in
     (take c.in-Some-decode_last.end c.decode_last.new.out, c.in-Some-decode_last.ensures.bytes, is)

@@ -22,9 +22,9 @@ loop-done-preserved g c =
     let inv = c.loop-done.invariant in
     let n = r.count in
     let e : 4 * c.loop-done.done + 4 * c.read_run-count.result.1 ≡ 4 * (c.loop-done.done + c.read_run-count.result.1) = omega arith in
-    let more : c.read_run-count.result.2 ≡ all_in g.E.Alphabet.table
+    let more : c.read_run-count.result.2 ≡ all_in g.E.Alphabet.form.table
     (take (4 * c.read_run-count.result.1) (drop (4 * c.loop-done.done) (characters_left c.args.reader)))
-    = r.answer ∙ ap (λ (us : List ℕ). all_in g.E.Alphabet.table (take (4 * c.read_run-count.result.1) us)) inv.characters in
+    = r.answer ∙ ap (λ (us : List ℕ). all_in g.E.Alphabet.form.table (take (4 * c.read_run-count.result.1) us)) inv.characters in
     let most : c.loop-done.done + c.read_run-count.result.1 ≤ c.args.blocks = (let m = n.1 in let t = c.loop-done-test.true in omega arith) in
     let enough = c.requires.enough in
     let room : length c.loop-done.out ≡ 3 * c.args.blocks = c.loop-done.auto.out ∙ c.requires.room in
@@ -35,14 +35,14 @@ loop-done-preserved g c =
           ∙ drop-drop (4 * c.read_run-count.result.1) (4 * c.loop-done.done) (characters_left c.args.reader)
           ∙ ap (λ (k : ℕ). drop k (characters_left c.args.reader)) e;
       answer = ap (λ (b : Bool). b && c.read_run-count.result.2) inv.answer
-          ∙ ap (λ (b : Bool). all_in g.E.Alphabet.table (take (4 * c.loop-done.done) (characters_left c.args.reader)) && b) more
-          ∙ sym (ap (all_in g.E.Alphabet.table) (take_blocks_plus c.loop-done.done c.read_run-count.result.1 (characters_left c.args.reader))
-          ∙ all_in-append g.E.Alphabet.table (take (4 * c.loop-done.done) (characters_left c.args.reader))
+          ∙ ap (λ (b : Bool). all_in g.E.Alphabet.form.table (take (4 * c.loop-done.done) (characters_left c.args.reader)) && b) more
+          ∙ sym (ap (all_in g.E.Alphabet.form.table) (take_blocks_plus c.loop-done.done c.read_run-count.result.1 (characters_left c.args.reader))
+          ∙ all_in-append g.E.Alphabet.form.table (take (4 * c.loop-done.done) (characters_left c.args.reader))
           (take (4 * c.read_run-count.result.1) (drop (4 * c.loop-done.done) (characters_left c.args.reader))));
       written = λ h. (let parts = and_parts c.loop-done.good c.read_run-count.result.2 h in
-          blocks_more g.E.Alphabet.end g.E.Alphabet.table (characters_left c.args.reader) c.loop-done.out c.read_run-count.new.out c.loop-done.done
+          blocks_more g.E.Alphabet.form.end g.E.Alphabet.form.table (characters_left c.args.reader) c.loop-done.out c.read_run-count.new.out c.loop-done.done
           c.read_run-count.result.1 (length c.loop-done.out)
           (omega arith) refl (omega arith) (inv.written parts.0)
-          (r.written parts.1 ∙ ap (λ (us : List ℕ). bytes_of_blocks g.E.Alphabet.end g.E.Alphabet.table (take (4 * c.read_run-count.result.1) us))
+          (r.written parts.1 ∙ ap (λ (us : List ℕ). bytes_of_blocks g.E.Alphabet.form.end g.E.Alphabet.form.table (take (4 * c.read_run-count.result.1) us))
           inv.characters));
     }

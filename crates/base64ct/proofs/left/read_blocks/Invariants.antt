@@ -9,8 +9,9 @@ invariant-loop-done g l = record {
   few : l.done ≤ l.blocks;
   reader : IsReader l.at;
   characters : characters_left l.at ≡ drop (4 * l.done) (characters_left l.fn.reader);
-  answer : l.good ≡ all_in g.E.Alphabet.table (take (4 * l.done) (characters_left l.fn.reader));
-  written : l.good ≡ true → take (3 * l.done) l.out ≡ bytes_of_blocks g.E.Alphabet.end g.E.Alphabet.table (take (4 * l.done) (characters_left l.fn.reader));
+  answer : l.good ≡ all_in g.E.Alphabet.form.table (take (4 * l.done) (characters_left l.fn.reader));
+  written : l.good ≡ true → take (3 * l.done) l.out ≡ bytes_of_blocks g.E.Alphabet.form.end g.E.Alphabet.form.table
+      (take (4 * l.done) (characters_left l.fn.reader));
 }
 
 abbrev pub decreases-loop-done : goal.decreases-loop-done

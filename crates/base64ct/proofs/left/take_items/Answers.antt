@@ -10,10 +10,10 @@ pub returns-then-n-out-clause-items : goal.returns-then-n-out-clause-items
 returns-then-n-out-clause-items g c =
     let full : length c.give-n.new.out ≤ c.give-n.result.1 = omega (arith, c.if-n-out.true) in
     given_items (few_bytes c.args.left.pending) (few_bytes c.give-n.result.0)
-    (block_items g.E.Alphabet.end g.E.Alphabet.table (take (4 * c.args.left.blocks) (characters_left c.args.left.reader))
+    (block_items g.E.Alphabet.form.end g.E.Alphabet.form.table (take (4 * c.args.left.blocks) (characters_left c.args.left.reader))
     ++ (map Some (few_bytes c.args.left.last))) c.give-n.result.1 c.give-n.ensures.kept
     ∙ ap (λ (us : List ℕ). map Some us ++ (map Some (few_bytes c.give-n.result.0)
-    ++ (block_items g.E.Alphabet.end g.E.Alphabet.table (take (4 * c.args.left.blocks) (characters_left c.args.left.reader))
+    ++ (block_items g.E.Alphabet.form.end g.E.Alphabet.form.table (take (4 * c.args.left.blocks) (characters_left c.args.left.reader))
     ++ (map Some (few_bytes c.args.left.last))))) (sym c.give-n.ensures.given ∙ take_all c.give-n.result.1 c.give-n.new.out full)
 
 pub returns-clause-items : goal.returns-clause-items
@@ -21,7 +21,7 @@ returns-clause-items g c =
     IfSome_then c.take_blocks.result c.take_blocks.ensures.items
     (λ next is. two_pieces _ _ _ (take c.give-n.result.1 (few_bytes c.args.left.pending)) c.take_blocks.new.out _
     (given_items (few_bytes c.args.left.pending) (few_bytes c.give-n.result.0)
-    (block_items g.E.Alphabet.end g.E.Alphabet.table (take (4 * c.args.left.blocks) (characters_left c.args.left.reader))
+    (block_items g.E.Alphabet.form.end g.E.Alphabet.form.table (take (4 * c.args.left.blocks) (characters_left c.args.left.reader))
     ++ (map Some (few_bytes c.args.left.last))) c.give-n.result.1 c.give-n.ensures.kept) is
     (put_back c.give-n.result.1 c.give-n.new.out c.take_blocks.new.out ∙ ap (λ (us : List ℕ). us ++ c.take_blocks.new.out) c.give-n.ensures.given))
 
@@ -36,5 +36,5 @@ returns-clause-bad g c =
     IfNone_then c.take_blocks.result c.take_blocks.ensures.bad
     (λ bad. bad_behind _ _ (take c.give-n.result.1 (few_bytes c.args.left.pending)) _ (length c.args.out.now)
     (given_items (few_bytes c.args.left.pending) (few_bytes c.give-n.result.0)
-    (block_items g.E.Alphabet.end g.E.Alphabet.table (take (4 * c.args.left.blocks) (characters_left c.args.left.reader))
+    (block_items g.E.Alphabet.form.end g.E.Alphabet.form.table (take (4 * c.args.left.blocks) (characters_left c.args.left.reader))
     ++ (map Some (few_bytes c.args.left.last))) c.give-n.result.1 c.give-n.ensures.kept) (omega arith) bad)

@@ -11,7 +11,7 @@ returns-clause-items g c =
     let next = c.in_ok-left.left in
     let chars : List ℕ = characters_left c.args.left.reader in
     let room = c.requires.room in
-    let all = length-left g.E.Alphabet.end g.E.Alphabet.table (few_bytes c.args.left.pending) (characters_left c.args.left.reader)
+    let all = length-left g.E.Alphabet.form.end g.E.Alphabet.form.table (few_bytes c.args.left.pending) (characters_left c.args.left.reader)
     (few_bytes c.args.left.last) c.args.left.blocks c.requires.left.blocks in
     let none = ap length c.requires.none in
     let few : length c.args.out.now ≤ length (few_bytes c.in_ok-left.left.pending) = elim (cases_eq c.args.left.blocks 0) [
@@ -26,10 +26,10 @@ returns-clause-items g c =
     ] in
     sym c.in_ok-left.ensures.items
     ∙ given_items (few_bytes c.in_ok-left.left.pending) (few_bytes c.give.result.0)
-    (block_items g.E.Alphabet.end g.E.Alphabet.table (take (4 * c.in_ok-left.left.blocks) (characters_left c.in_ok-left.left.reader))
+    (block_items g.E.Alphabet.form.end g.E.Alphabet.form.table (take (4 * c.in_ok-left.left.blocks) (characters_left c.in_ok-left.left.reader))
     ++ map Some (few_bytes c.in_ok-left.left.last))
     c.give.result.1 c.give.ensures.kept
     ∙ ap (λ (us : List ℕ). map Some us ++ (map Some (few_bytes c.give.result.0)
-    ++ (block_items g.E.Alphabet.end g.E.Alphabet.table (take (4 * c.in_ok-left.left.blocks) (characters_left c.in_ok-left.left.reader))
+    ++ (block_items g.E.Alphabet.form.end g.E.Alphabet.form.table (take (4 * c.in_ok-left.left.blocks) (characters_left c.in_ok-left.left.reader))
     ++ map Some (few_bytes c.in_ok-left.left.last))))
     (sym c.give.ensures.given ∙ take_all c.give.result.1 c.give.new.out full)

@@ -8,11 +8,11 @@ use Rattle.base64ct.proofs.line_laws.wrapped_encoding_is_read_back.Goals as goal
 
 pub returns : goal.returns
 returns g c = λ width ending b low some bytes.
-    let f = facts g.E.Alphabet.table g.met.E.Alphabet.lawful in (
-      encoding_of g.E.Alphabet.end g.E.Alphabet.table g.E.Alphabet.PADDED b,
-      wrapped_lines width ending (encoding_of g.E.Alphabet.end g.E.Alphabet.table g.E.Alphabet.PADDED b) low
-          (encoding_some g.E.Alphabet.end g.E.Alphabet.table g.E.Alphabet.PADDED b some)
-          (encoding_line g.E.Alphabet.end g.E.Alphabet.table g.E.Alphabet.PADDED b f bytes),
+    let f = facts g.E.Alphabet.form.table g.met.E.Alphabet.lawful in (
+      encoding_of g.E.Alphabet.form b,
+      wrapped_lines width ending (encoding_of g.E.Alphabet.form b) low
+          (encoding_some g.E.Alphabet.form.end g.E.Alphabet.form.table g.E.Alphabet.form.padded b some)
+          (encoding_line g.E.Alphabet.form.end g.E.Alphabet.form.table g.E.Alphabet.form.padded b f bytes),
       refl,
       bytes,
     )

@@ -23,7 +23,7 @@ returns-clause-answer g c =
       e3,
       c.decode_6bits_counted-fourth.ensures.place,
     )
-    (four_answer g.Self.Alphabet.table c.args.src.now c.requires.four)
+    (four_answer g.Self.Alphabet.form.table c.args.src.now c.requires.four)
 
 pub returns-clause-written : goal.returns-clause-written
 returns-clause-written g c h =
@@ -42,14 +42,14 @@ returns-clause-written g c h =
       c.decode_6bits_counted-third.ensures.place,
       e3,
       c.decode_6bits_counted-fourth.ensures.place,
-      four_answer g.Self.Alphabet.table c.args.src.now
+      four_answer g.Self.Alphabet.form.table c.args.src.now
           c.requires.four,
       h,
     ) refl in
-    let s0 = sextet_is g.Self.Alphabet.table (slice_index c.args.src.now 0) (all_in_at g.Self.Alphabet.table c.args.src.now h 0 (omega arith)) in
-    let s1 = sextet_is g.Self.Alphabet.table (slice_index c.args.src.now 1) (all_in_at g.Self.Alphabet.table c.args.src.now h 1 (omega arith)) in
-    let s2 = sextet_is g.Self.Alphabet.table (slice_index c.args.src.now 2) (all_in_at g.Self.Alphabet.table c.args.src.now h 2 (omega arith)) in
-    let s3 = sextet_is g.Self.Alphabet.table (slice_index c.args.src.now 3) (all_in_at g.Self.Alphabet.table c.args.src.now h 3 (omega arith)) in
+    let s0 = sextet_is g.Self.Alphabet.form.table (slice_index c.args.src.now 0) (all_in_at g.Self.Alphabet.form.table c.args.src.now h 0 (omega arith)) in
+    let s1 = sextet_is g.Self.Alphabet.form.table (slice_index c.args.src.now 1) (all_in_at g.Self.Alphabet.form.table c.args.src.now h 1 (omega arith)) in
+    let s2 = sextet_is g.Self.Alphabet.form.table (slice_index c.args.src.now 2) (all_in_at g.Self.Alphabet.form.table c.args.src.now h 2 (omega arith)) in
+    let s3 = sextet_is g.Self.Alphabet.form.table (slice_index c.args.src.now 3) (all_in_at g.Self.Alphabet.form.table c.args.src.now h 3 (omega arith)) in
     rw (
       c.group_3bytes.ensures.written zero,
       e0,

@@ -10,8 +10,8 @@ pub loop-step-init : goal.loop-step-init
 loop-step-init g c =
     let low : c.args.src < 256 = omega arith in
     rw c.decode_passes-step-items.ensures (record {
-      fits = fits_at g.Self.Alphabet.decode_steps g.Self.Alphabet.table c.args.src g.met.Self.Alphabet.decoder_answers low;
-      sum = sum_at g.Self.Alphabet.decode_steps g.Self.Alphabet.table c.args.src g.met.Self.Alphabet.decoder_answers low;
+      fits = fits_at g.Self.Alphabet.decode_steps g.Self.Alphabet.form.table c.args.src g.met.Self.Alphabet.decoder_answers low;
+      sum = sum_at g.Self.Alphabet.decode_steps g.Self.Alphabet.form.table c.args.src g.met.Self.Alphabet.decoder_answers low;
     })
 
 pub loop-step-preserved : goal.loop-step-preserved
@@ -30,5 +30,6 @@ loop-step-preserved g c =
 
 pub returns-clause-range : goal.returns-clause-range
 returns-clause-range g c =
-    let is : to_z w16 c.loop-step.sum-bits ≡ place_of g.Self.Alphabet.table c.args.src = sum_end _ _ _ _ _ c.loop-step-test.false c.loop-step.invariant.sum in
-    rw is (place_is_place g.Self.Alphabet.table c.args.src (facts g.Self.Alphabet.table g.met.Self.Alphabet.lawful).len)
+    let is : to_z w16 c.loop-step.sum-bits ≡ place_of g.Self.Alphabet.form.table c.args.src = sum_end _ _ _ _ _ c.loop-step-test.false
+    c.loop-step.invariant.sum in
+    rw is (place_is_place g.Self.Alphabet.form.table c.args.src (facts g.Self.Alphabet.form.table g.met.Self.Alphabet.lawful).len)

@@ -7,5 +7,5 @@ use Rattle.base64_alphabet.proofs.alphabet.Alphabet.decode_6bits.Given as goal
 abbrev pub invariant-loop-step : goal.invariant-loop-step
 invariant-loop-step g l = record {
   fits : sums_fit l.sum (drop l.step-index l.step-items) l.src ≡ true;
-  sum : sum_from l.sum (drop l.step-index l.step-items) l.src ≡ place_of g.Self.Alphabet.table l.src;
+  sum : sum_from l.sum (drop l.step-index l.step-items) l.src ≡ place_of g.Self.Alphabet.form.table l.src;
 }

@@ -11,7 +11,7 @@ loop-step-init g c =
     let b : to_z w16 c.BASE.result ≡ pos c.BASE.result = omega (arith, ints) in
     let sum : to_z w16 (of_z w16 (c.args.src +ℤ pos c.BASE.result)) ≡ c.args.src +ℤ pos c.BASE.result = omega (arith, ints) in
     rw (s, b, sum, c.encode_passes-step-items.ensures, c.BASE.ensures) (record {
-      fits = turns_fit_at _ _ g.Self.Alphabet.table _ g.met.Self.Alphabet.encoder_answers c.requires.low c.requires.high;
+      fits = turns_fit_at _ _ g.Self.Alphabet.form.table _ g.met.Self.Alphabet.encoder_answers c.requires.low c.requires.high;
       sum = turned_at _ _ _ _ g.met.Self.Alphabet.encoder_answers c.requires.low c.requires.high;
     })
 
@@ -38,7 +38,7 @@ loop-step-preserved g c =
 
 pub overflow_cast-result : goal.overflow_cast-result
 overflow_cast-result g c =
-    let char : ℕ = slice_index g.Self.Alphabet.table (unsigned_abs (to_z w16 (of_z w16 c.args.src))) in
+    let char : ℕ = slice_index g.Self.Alphabet.form.table (unsigned_abs (to_z w16 (of_z w16 c.args.src))) in
     let is : to_z w16 c.loop-step.sum-bits ≡ pos char = turned_end _ _ _ _ _ c.loop-step-test.false c.loop-step.invariant.sum in
-    let low : char < 128 = ascii_at g.Self.Alphabet.table (facts g.Self.Alphabet.table g.met.Self.Alphabet.lawful).ascii _ in
+    let low : char < 128 = ascii_at g.Self.Alphabet.form.table (facts g.Self.Alphabet.form.table g.met.Self.Alphabet.lawful).ascii _ in
     rw is (tt, record { fits = omega arith })

@@ -6,5 +6,5 @@ use Rattle.base64_alphabet.proofs.alphabet.Alphabet.encode_6bits.Given as goal
 abbrev pub invariant-loop-step : goal.invariant-loop-step
 invariant-loop-step g l = record {
   fits : turns_fit l.sum (drop l.step-index l.step-items) l.src ≡ true;
-  sum : turned_from l.sum (drop l.step-index l.step-items) l.src ≡ pos (slice_index g.Self.Alphabet.table (unsigned_abs l.src));
+  sum : turned_from l.sum (drop l.step-index l.step-items) l.src ≡ pos (slice_index g.Self.Alphabet.form.table (unsigned_abs l.src));
 }

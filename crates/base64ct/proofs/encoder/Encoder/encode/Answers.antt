@@ -12,7 +12,7 @@ overflow_add-count g c =
 
 pub returns-in_default-clause-fits : goal.returns-in_default-clause-fits
 returns-in_default-clause-fits g c =
-    let len = groups_len g.E.Alphabet.end g.E.Alphabet.table g.E.Alphabet.PADDED c.self.inside.output.now c.self.inside.block c.args.input.now
+    let len = groups_len g.E.Alphabet.form.end g.E.Alphabet.form.table g.E.Alphabet.form.padded c.self.inside.output.now c.self.inside.block c.args.input.now
     c.self.inside.wrapper c.self.inside.filled c.self.inside.count
     c.self.invariant c.self.told.1 in
     let none = c.in_default.ensures.none in
@@ -20,36 +20,38 @@ returns-in_default-clause-fits g c =
 
 pub settle-self-inside-requires-clause-room : goal.settle-self-inside-requires-clause-room
 settle-self-inside-requires-clause-room g c =
-    let size = block_size g.E.Alphabet.end g.E.Alphabet.table c.self.inside.block c.args.input.now c.encode_groups.new.out c.self.inside.count c.self.told.1
+    let size = block_size g.E.Alphabet.form.end g.E.Alphabet.form.table c.self.inside.block c.args.input.now c.encode_groups.new.out c.self.inside.count
+    c.self.told.1
     c.encode_groups.ensures.text in
-    let p = encode_placed g.E.Alphabet.end g.E.Alphabet.table c.self.inside.output.now c.encode_groups.new.out c.self.inside.wrapper c.self.inside.filled
+    let p = encode_placed g.E.Alphabet.form.end g.E.Alphabet.form.table c.self.inside.output.now c.encode_groups.new.out c.self.inside.wrapper
+    c.self.inside.filled
     c.self.inside.count (length c.args.input.now) _ c.in-Some.end
     c.self.invariant c.in-Some.ensures.some.1 c.in-Some.ensures.some.0 refl size in
     rw (p.at.back, p.at.len) p.room
 
 pub invariant_of-self : goal.invariant_of-self
 invariant_of-self g c =
-    (encoded g.E.Alphabet.end g.E.Alphabet.table g.E.Alphabet.PADDED c.self.inside.wrapper c.settle-self-inside.result c.self.inside.output.now
+    (encoded g.E.Alphabet.form.end g.E.Alphabet.form.table g.E.Alphabet.form.padded c.self.inside.wrapper c.settle-self-inside.result c.self.inside.output.now
     c.encode_groups.new.out c.settle-self-inside.new.out
     c.self.inside.filled _ c.in-Some.end c.self.inside.count c.self.inside.block c.encode_groups.new.block c.args.input.now
-    (facts g.E.Alphabet.table g.met.E.Alphabet.lawful) c.self.invariant
+    (facts g.E.Alphabet.form.table g.met.E.Alphabet.lawful) c.self.invariant
     c.self.told.1 c.encode_groups.ensures.bytes c.in-Some.ensures.some.1 c.in-Some.ensures.some.0 refl c.encode_groups.ensures.text
     c.settle-self-inside.ensures.text c.settle-self-inside.ensures.next
     c.encode_groups.ensures.rest).written
 
 pub returns-clause-ok : goal.returns-clause-ok
 returns-clause-ok g c = rw (← c.self.view_is)
-    (encoded g.E.Alphabet.end g.E.Alphabet.table g.E.Alphabet.PADDED c.self.inside.wrapper c.settle-self-inside.result c.self.inside.output.now
+    (encoded g.E.Alphabet.form.end g.E.Alphabet.form.table g.E.Alphabet.form.padded c.self.inside.wrapper c.settle-self-inside.result c.self.inside.output.now
     c.encode_groups.new.out c.settle-self-inside.new.out
     c.self.inside.filled _ c.in-Some.end c.self.inside.count c.self.inside.block c.encode_groups.new.block c.args.input.now
-    (facts g.E.Alphabet.table g.met.E.Alphabet.lawful) c.self.invariant
+    (facts g.E.Alphabet.form.table g.met.E.Alphabet.lawful) c.self.invariant
     c.self.told.1 c.encode_groups.ensures.bytes c.in-Some.ensures.some.1 c.in-Some.ensures.some.0 refl c.encode_groups.ensures.text
     c.settle-self-inside.ensures.text c.settle-self-inside.ensures.next
     c.encode_groups.ensures.rest).seen
 
 pub returns-clause-fits : goal.returns-clause-fits
 returns-clause-fits g c =
-    let len = groups_len g.E.Alphabet.end g.E.Alphabet.table g.E.Alphabet.PADDED c.self.inside.output.now c.self.inside.block c.args.input.now
+    let len = groups_len g.E.Alphabet.form.end g.E.Alphabet.form.table g.E.Alphabet.form.padded c.self.inside.output.now c.self.inside.block c.args.input.now
     c.self.inside.wrapper c.self.inside.filled c.self.inside.count
     c.self.invariant c.self.told.1 in
     let some = c.in-Some.ensures.some in
@@ -57,16 +59,18 @@ returns-clause-fits g c =
 
 pub returns-clause-behind : goal.returns-clause-behind
 returns-clause-behind g c =
-    let r = encoded g.E.Alphabet.end g.E.Alphabet.table g.E.Alphabet.PADDED c.self.inside.wrapper c.settle-self-inside.result c.self.inside.output.now
+    let r = encoded g.E.Alphabet.form.end g.E.Alphabet.form.table g.E.Alphabet.form.padded c.self.inside.wrapper c.settle-self-inside.result
+    c.self.inside.output.now
     c.encode_groups.new.out c.settle-self-inside.new.out
     c.self.inside.filled _ c.in-Some.end c.self.inside.count c.self.inside.block c.encode_groups.new.block c.args.input.now
-    (facts g.E.Alphabet.table g.met.E.Alphabet.lawful) c.self.invariant
+    (facts g.E.Alphabet.form.table g.met.E.Alphabet.lawful) c.self.invariant
     c.self.told.1 c.encode_groups.ensures.bytes c.in-Some.ensures.some.1 c.in-Some.ensures.some.0 refl c.encode_groups.ensures.text
     c.settle-self-inside.ensures.text c.settle-self-inside.ensures.next
     c.encode_groups.ensures.rest in
-    let after = groups_len g.E.Alphabet.end g.E.Alphabet.table g.E.Alphabet.PADDED c.self.inside.output.now c.self.inside.block c.args.input.now
+    let after = groups_len g.E.Alphabet.form.end g.E.Alphabet.form.table g.E.Alphabet.form.padded c.self.inside.output.now c.self.inside.block c.args.input.now
     c.self.inside.wrapper c.self.inside.filled c.self.inside.count
     c.self.invariant c.self.told.1 ∙ sym c.in-Some.ensures.some.0 in
-    let before = position_is g.E.Alphabet.end g.E.Alphabet.table g.E.Alphabet.PADDED c.self.inside.output.now c.self.inside.block c.self.inside.wrapper
+    let before = position_is g.E.Alphabet.form.end g.E.Alphabet.form.table g.E.Alphabet.form.padded c.self.inside.output.now c.self.inside.block
+    c.self.inside.wrapper
     c.self.inside.filled c.self.inside.count c.self.invariant c.self.told.1 in
     rw (← c.self.view_is) (rw (after, before) r.behind)

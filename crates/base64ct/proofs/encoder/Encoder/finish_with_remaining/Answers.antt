@@ -9,9 +9,10 @@ use Rattle.base64ct.proofs.encoder.Encoder.finish_with_remaining.Goals as goal
 
 pub returns-in_default-clause-fits : goal.returns-in_default-clause-fits
 returns-in_default-clause-fits g c =
-    let more : c.rest_len-more.result ≡ encoded_len g.E.Alphabet.PADDED (c.self.inside.count % 3) = c.rest_len-more.ensures
-    ∙ ap (λ (p : Bool). encoded_len p (c.self.inside.count % 3)) c.PADDED.ensures in
-    let len = finish_len g.E.Alphabet.end g.E.Alphabet.table g.E.Alphabet.PADDED c.self.inside.output.now c.self.inside.block c.self.inside.wrapper
+    let more : c.rest_len-more.result ≡ encoded_len g.E.Alphabet.form.padded (c.self.inside.count % 3) = c.rest_len-more.ensures
+    ∙ ap (λ (p : Bool). encoded_len p (c.self.inside.count % 3)) (c.PADDED.ensures ∙ sym g.met.E.Alphabet.tells_padding) in
+    let len = finish_len g.E.Alphabet.form.end g.E.Alphabet.form.table g.E.Alphabet.form.padded c.self.inside.output.now c.self.inside.block
+    c.self.inside.wrapper
     c.self.inside.filled c.self.inside.count c.self.invariant (omega arith)
     ∙ ap (λ (k : ℕ). in_lines_len (lines_of c.self.inside.wrapper) (4 * (c.self.inside.count / 3) + k)) (sym more) in
     let none = c.in_default.ensures.none in
@@ -22,7 +23,7 @@ settle-requires-clause-room g c =
     let some = c.in-Some.ensures.some in
     let size = finish_size c.self.inside.wrapper c.self.inside.output.now c.encode_front.new.dst c.in-Some.end c.rest_len-more.result c.self.inside.count
     some.1 some.0 c.encode_front.auto.dst in
-    let p = placed g.E.Alphabet.end g.E.Alphabet.table c.self.inside.output.now c.encode_front.new.dst c.self.inside.wrapper c.self.inside.filled
+    let p = placed g.E.Alphabet.form.end g.E.Alphabet.form.table c.self.inside.output.now c.encode_front.new.dst c.self.inside.wrapper c.self.inside.filled
     c.self.inside.count
     (c.in-Some.end - c.rest_len-more.result) c.in-Some.end c.self.invariant some.1
     (some.0 ∙ ap (λ (k : ℕ). in_lines_len (lines_of c.self.inside.wrapper) (4 * (c.self.inside.count / 3) + k)) (sym size))
@@ -32,30 +33,32 @@ settle-requires-clause-room g c =
 pub ascii_text-requires : goal.ascii_text-requires
 ascii_text-requires g c =
     let some = c.in-Some.ensures.some in
-    let more : c.rest_len-more.result ≡ encoded_len g.E.Alphabet.PADDED (c.self.inside.count % 3) = c.rest_len-more.ensures
-    ∙ ap (λ (p : Bool). encoded_len p (c.self.inside.count % 3)) c.PADDED.ensures in
+    let more : c.rest_len-more.result ≡ encoded_len g.E.Alphabet.form.padded (c.self.inside.count % 3) = c.rest_len-more.ensures
+    ∙ ap (λ (p : Bool). encoded_len p (c.self.inside.count % 3)) (c.PADDED.ensures ∙ sym g.met.E.Alphabet.tells_padding) in
     let size = finish_size c.self.inside.wrapper c.self.inside.output.now c.encode_front.new.dst c.in-Some.end c.rest_len-more.result c.self.inside.count
     some.1 some.0 c.encode_front.auto.dst in
-    let text = finished g.E.Alphabet.end g.E.Alphabet.table g.E.Alphabet.PADDED c.self.inside.wrapper c.self.inside.output.now c.encode_front.new.dst
+    let text = finished g.E.Alphabet.form.end g.E.Alphabet.form.table g.E.Alphabet.form.padded c.self.inside.wrapper c.self.inside.output.now
+    c.encode_front.new.dst
     c.settle.new.out _ c.self.inside.filled
     c.self.inside.count c.in-Some.end c.encode_front.result c.rest_len-more.result c.self.inside.block c.self.invariant (omega arith) some.1 some.0 more
     c.encode_front.ensures.len c.encode_front.ensures.text size c.settle.ensures.text in
-    let f = facts g.E.Alphabet.table g.met.E.Alphabet.lawful in
+    let f = facts g.E.Alphabet.form.table g.met.E.Alphabet.lawful in
     subst IsAscii (sym (c.split_at_mut-text.ensures.front ∙ text))
-    (lines_ascii g.E.Alphabet.end g.E.Alphabet.table g.E.Alphabet.PADDED c.self.inside.wrapper _
-    (taken_of g.E.Alphabet.end g.E.Alphabet.table c.self.inside.wrapper c.self.inside.output.now c.self.inside.filled c.self.inside.count
+    (lines_ascii g.E.Alphabet.form.end g.E.Alphabet.form.table g.E.Alphabet.form.padded c.self.inside.wrapper _
+    (taken_of g.E.Alphabet.form.end g.E.Alphabet.form.table c.self.inside.wrapper c.self.inside.output.now c.self.inside.filled c.self.inside.count
     c.self.inside.block) f c.self.invariant.lines
-    (taken_bytes g.E.Alphabet.end g.E.Alphabet.table c.self.inside.output.now c.self.inside.block c.self.inside.wrapper c.self.inside.filled
+    (taken_bytes g.E.Alphabet.form.end g.E.Alphabet.form.table c.self.inside.output.now c.self.inside.block c.self.inside.wrapper c.self.inside.filled
     c.self.inside.count c.self.invariant c.known.ensures))
 
 pub returns-clause-text : goal.returns-clause-text
 returns-clause-text g c =
     let some = c.in-Some.ensures.some in
-    let more : c.rest_len-more.result ≡ encoded_len g.E.Alphabet.PADDED (c.self.inside.count % 3) = c.rest_len-more.ensures
-    ∙ ap (λ (p : Bool). encoded_len p (c.self.inside.count % 3)) c.PADDED.ensures in
+    let more : c.rest_len-more.result ≡ encoded_len g.E.Alphabet.form.padded (c.self.inside.count % 3) = c.rest_len-more.ensures
+    ∙ ap (λ (p : Bool). encoded_len p (c.self.inside.count % 3)) (c.PADDED.ensures ∙ sym g.met.E.Alphabet.tells_padding) in
     let size = finish_size c.self.inside.wrapper c.self.inside.output.now c.encode_front.new.dst c.in-Some.end c.rest_len-more.result c.self.inside.count
     some.1 some.0 c.encode_front.auto.dst in
-    let text = finished g.E.Alphabet.end g.E.Alphabet.table g.E.Alphabet.PADDED c.self.inside.wrapper c.self.inside.output.now c.encode_front.new.dst
+    let text = finished g.E.Alphabet.form.end g.E.Alphabet.form.table g.E.Alphabet.form.padded c.self.inside.wrapper c.self.inside.output.now
+    c.encode_front.new.dst
     c.settle.new.out _ c.self.inside.filled
     c.self.inside.count c.in-Some.end c.encode_front.result c.rest_len-more.result c.self.inside.block c.self.invariant (omega arith) some.1 some.0 more
     c.encode_front.ensures.len c.encode_front.ensures.text size c.settle.ensures.text in
@@ -63,9 +66,10 @@ returns-clause-text g c =
 
 pub returns-clause-fits : goal.returns-clause-fits
 returns-clause-fits g c =
-    let more : c.rest_len-more.result ≡ encoded_len g.E.Alphabet.PADDED (c.self.inside.count % 3) = c.rest_len-more.ensures
-    ∙ ap (λ (p : Bool). encoded_len p (c.self.inside.count % 3)) c.PADDED.ensures in
-    let len = finish_len g.E.Alphabet.end g.E.Alphabet.table g.E.Alphabet.PADDED c.self.inside.output.now c.self.inside.block c.self.inside.wrapper
+    let more : c.rest_len-more.result ≡ encoded_len g.E.Alphabet.form.padded (c.self.inside.count % 3) = c.rest_len-more.ensures
+    ∙ ap (λ (p : Bool). encoded_len p (c.self.inside.count % 3)) (c.PADDED.ensures ∙ sym g.met.E.Alphabet.tells_padding) in
+    let len = finish_len g.E.Alphabet.form.end g.E.Alphabet.form.table g.E.Alphabet.form.padded c.self.inside.output.now c.self.inside.block
+    c.self.inside.wrapper
     c.self.inside.filled c.self.inside.count c.self.invariant (omega arith)
     ∙ ap (λ (k : ℕ). in_lines_len (lines_of c.self.inside.wrapper) (4 * (c.self.inside.count / 3) + k)) (sym more) in
     let some = c.in-Some.ensures.some in
@@ -76,12 +80,13 @@ returns-clause-rest g c =
     let some = c.in-Some.ensures.some in
     let size = finish_size c.self.inside.wrapper c.self.inside.output.now c.encode_front.new.dst c.in-Some.end c.rest_len-more.result c.self.inside.count
     some.1 some.0 c.encode_front.auto.dst in
-    let p = placed g.E.Alphabet.end g.E.Alphabet.table c.self.inside.output.now c.encode_front.new.dst c.self.inside.wrapper c.self.inside.filled
+    let p = placed g.E.Alphabet.form.end g.E.Alphabet.form.table c.self.inside.output.now c.encode_front.new.dst c.self.inside.wrapper c.self.inside.filled
     c.self.inside.count
     (c.in-Some.end - c.rest_len-more.result) c.in-Some.end c.self.invariant some.1
     (some.0 ∙ ap (λ (k : ℕ). in_lines_len (lines_of c.self.inside.wrapper) (4 * (c.self.inside.count / 3) + k)) (sym size))
     (ap (λ (k : ℕ). c.in-Some.end - k) (sym size)) in
-    let before = position_is g.E.Alphabet.end g.E.Alphabet.table g.E.Alphabet.PADDED c.self.inside.output.now c.self.inside.block c.self.inside.wrapper
+    let before = position_is g.E.Alphabet.form.end g.E.Alphabet.form.table g.E.Alphabet.form.padded c.self.inside.output.now c.self.inside.block
+    c.self.inside.wrapper
     c.self.inside.filled c.self.inside.count c.self.invariant (omega arith) in
     let text : length c.ascii_text.result.now ≡ c.in-Some.end = ap length c.ascii_text.ensures ∙ c.split_at_mut-text.ensures.front_len in
     let rest = behind_of c.self.inside.output.now c.encode_front.new.dst c.settle.new.out c.self.inside.wrapper c.self.inside.filled _ c.in-Some.end p
