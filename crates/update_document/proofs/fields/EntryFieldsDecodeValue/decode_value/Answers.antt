@@ -7,23 +7,28 @@ use Rattle.update_document.proofs.fields.EntryFieldsDecodeValue.decode_value.Goa
 
 pub returns-in_err-text-clause-none : goal.returns-in_err-text-clause-none
 returns-in_err-text-clause-none g c =
-    let none : (v : EntryFields _ _ _) → ThreeFields g.Text.Decode.Reads g.Private.Decode.Reads g.Public.Decode.Reads c.args.cursor.now v.text v.private_key v.public_key → ⊥ = λ v content.
+    let none : (v : EntryFields _ _ _) →
+    ThreeFields g.Text.Decode.Reads g.Private.Decode.Reads g.Public.Decode.Reads c.args.cursor.now v.text v.private_key v.public_key → ⊥ = λ v content.
     then_none g.Text.Decode.Reads _ c.args.cursor.now v.text (rw (c.new-at.ensures, c.rest.ensures) at c.in_err-text.ensures.none) content in
     on_err_any _ none
 
 pub returns-in_err-private_key-clause-none : goal.returns-in_err-private_key-clause-none
 returns-in_err-private_key-clause-none g c =
-    let none : (v : EntryFields _ _ _) → ThreeFields g.Text.Decode.Reads g.Private.Decode.Reads g.Public.Decode.Reads c.args.cursor.now v.text v.private_key v.public_key → ⊥ = λ v content.
+    let none : (v : EntryFields _ _ _) →
+    ThreeFields g.Text.Decode.Reads g.Private.Decode.Reads g.Public.Decode.Reads c.args.cursor.now v.text v.private_key v.public_key → ⊥ = λ v content.
     no_second_of_three g.Text.Decode.Reads g.Private.Decode.Reads g.Public.Decode.Reads (g.met.Text.Decode c.lifetimes (search rules)).one_value
-    c.args.cursor.now _ _ (rw (c.new-at.ensures, c.rest.ensures) at c.in_ok-text.ensures.value) c.in_err-private_key.ensures.none v.text v.private_key v.public_key content in
+    c.args.cursor.now _ _ (rw (c.new-at.ensures, c.rest.ensures) at c.in_ok-text.ensures.value)
+    c.in_err-private_key.ensures.none v.text v.private_key v.public_key content in
     on_err_any _ none
 
 pub returns-in_err-public_key-clause-none : goal.returns-in_err-public_key-clause-none
 returns-in_err-public_key-clause-none g c =
-    let none : (v : EntryFields _ _ _) → ThreeFields g.Text.Decode.Reads g.Private.Decode.Reads g.Public.Decode.Reads c.args.cursor.now v.text v.private_key v.public_key → ⊥ = λ v content.
+    let none : (v : EntryFields _ _ _) →
+    ThreeFields g.Text.Decode.Reads g.Private.Decode.Reads g.Public.Decode.Reads c.args.cursor.now v.text v.private_key v.public_key → ⊥ = λ v content.
     no_third_of_three g.Text.Decode.Reads g.Private.Decode.Reads g.Public.Decode.Reads (g.met.Text.Decode c.lifetimes (search rules)).one_value
     (g.met.Private.Decode c.lifetimes (search rules)).one_value
-    c.args.cursor.now _ _ _ _ (rw (c.new-at.ensures, c.rest.ensures) at c.in_ok-text.ensures.value) c.in_ok-private_key.ensures.value c.in_err-public_key.ensures.none v.text v.private_key v.public_key content in
+    c.args.cursor.now _ _ _ _ (rw (c.new-at.ensures, c.rest.ensures) at c.in_ok-text.ensures.value)
+    c.in_ok-private_key.ensures.value c.in_err-public_key.ensures.none v.text v.private_key v.public_key content in
     on_err_any _ none
 
 pub returns-then-not-is_finished-clause-none : goal.returns-then-not-is_finished-clause-none
