@@ -37,13 +37,14 @@ pub trait Disk {
     /// How many calls failed, up to 2^64 - 1.
     ghost faults: { Self → ℕ };
 
-    /// Reads a whole file.
+    /// Reads a whole file: `Missing` where there is none, `TooLong` above 16 MiB, `Failed` with the count of faults risen, `OutOfMemory`.
     fn read_file(&mut self, alloc: Global, path: &str) -> Result<Vec<u8>, DiskError>
         ensures read { ForSome (files self.old) (λ known. ReadFrom (file_at path.now known) result) }
         ensures kept { files self.new ≡ files self.old }
         ensures cause { FaultCause (faults self.old) (faults self.new) result };
 
-    /// Writes a whole file, in place of the one that has the path. After a refusal that path may hold anything.
+    /// Writes a whole file, in place of the one that has the path: `Failed` with the count of faults risen, or `OutOfMemory`. After a refusal
+    /// that path may hold anything.
     fn write_file(&mut self, path: &str, bytes: &[u8]) -> Result<(), DiskError>
         ensures wrote { Wrote path.now bytes.now (files self.old) (files self.new) result }
         ensures answers { IfErr result (λ e. (e ≡ DiskError.Failed) ⊎ (e ≡ DiskError.OutOfMemory)) }

@@ -15,7 +15,8 @@ pub trait Sink {
     /// How many calls failed, up to 2^64 - 1.
     ghost faults: { Self → ℕ };
 
-    /// Appends the first of the bytes, and answers how many: at least one where there are any.
+    /// Appends the first of the bytes, and answers how many: at least one where there are any. `Failed` with the count of faults risen; then
+    /// nothing is appended.
     fn write(&mut self, bytes: &[u8]) -> Result<usize, Failed>
         ensures bound { WritesAtMost result bytes.now }
         ensures bytes { WriteAppends (written self.old) (written self.new) result bytes.now }

@@ -18,6 +18,7 @@ pub trait Source {
     ghost faults: { Self → ℕ };
 
     /// Moves the first bytes that are left to the front of the buffer, and answers how many. With room in the buffer, 0 is the end of the input.
+    /// `Failed` with the count of faults risen; then no byte is taken.
     fn read(&mut self, buf: &mut [u8]) -> Result<usize, Failed>
         ensures bound { ReadsAtMost result buf.new }
         ensures bytes { ReadConsumes (left self.old) (left self.new) result buf.new }

@@ -31,7 +31,8 @@ impl From<AllocError> for ReadError {
     }
 }
 
-/// Reads all the bytes that are left, in pieces of 64 KiB.
+/// Reads all the bytes that are left, in pieces of 64 KiB: `TooLong` where they are more than 16 MiB, `Failed` where the source fails,
+/// `OutOfMemory`.
 pub fn read_all<S: Source>(alloc: Global, source: &mut S) -> Result<Vec<u8>, ReadError>
     ensures bytes { IfOk result (λ v. Consumes (S.left source.old) (S.left source.new) v.items × IsAtEnd (S.left source.new)) }
     ensures within { IfOk result (λ v. length v.items ≤ LIMIT) }
@@ -54,7 +55,7 @@ pub fn read_all<S: Source>(alloc: Global, source: &mut S) -> Result<Vec<u8>, Rea
     Err(ReadError::TooLong)
 }
 
-/// Writes all of the bytes, in as many pieces as the sink asks for. After a fault a first part of them was written.
+/// Writes all of the bytes, in as many pieces as the sink asks for: `Failed` where the sink fails, and then a first part of them was written.
 pub fn write_all<K: Sink>(sink: &mut K, bytes: &[u8]) -> Result<(), Failed>
     ensures ok { OnOk result (Appends (K.written sink.old) (K.written sink.new) bytes.now) }
     ensures prefix { AppendsPrefix (K.written sink.old) (K.written sink.new) bytes.now }

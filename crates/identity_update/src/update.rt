@@ -51,7 +51,8 @@ impl Model for Update {
 
 impl Update {
     /// Reads an update from its text: the padded Base64 of its document in lines of `width` characters, the last one
-    /// shorter or equal, with CR, LF or CRLF between two lines and none after the last.
+    /// shorter or equal, with CR, LF or CRLF between two lines and none after the last. It answers the first rule that the
+    /// text breaks (`Text`, then `Document`, then the rules of what the document writes), or `OutOfMemory`.
     pub fn read(alloc: Global, text: &[u8], width: usize) -> Result<Update, UpdateError>
         ensures value { IfOk result (Writes width text.now) }
         ensures refusal { IfErr result (Refuses width text.now) }
@@ -62,7 +63,7 @@ impl Update {
         assemble(parts, bytes)
     }
 
-    /// The update of these entries and bundles, without a reason.
+    /// The update of these entries and bundles, without a reason, or the first rule that they break, or `OutOfMemory`.
     pub fn from_parts(
         alloc: Global,
         entries: Vec<EntryParts>,
@@ -75,7 +76,8 @@ impl Update {
         judge_parts(alloc, entries, bundles, None)
     }
 
-    /// The update that withdraws all identities for this reason, of 1 to 255 bytes, and lists these bundles.
+    /// The update that withdraws all identities for this reason, of 1 to 255 bytes, and lists these bundles, or the first rule that they break,
+    /// or `OutOfMemory`.
     pub fn withdrawal(
         alloc: Global,
         reason: &str,
@@ -100,7 +102,8 @@ impl Update {
     }
 
     /// The update's text: the padded Base64 of its document in lines of `width` characters, the last one shorter or
-    /// equal, with the ending between two lines and none after the last. Lines have at least 4 characters.
+    /// equal, with the ending between two lines and none after the last. Lines have at least 4 characters:
+    /// `InvalidLength` where they would have fewer, or `OutOfMemory`.
     pub fn to_text(
         &self,
         alloc: Global,

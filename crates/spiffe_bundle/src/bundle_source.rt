@@ -18,7 +18,7 @@ pub trait BundleSource {
     // For each trust domain a source has one answer, which follows from what it holds.
     ghost answer: { Self → List ℕ → Result (Option Self.Item) Self.Error };
 
-    /// The bundle of a trust domain, if the source has one.
+    /// The bundle of a trust domain, if the source has one. A source refuses with its own error, as its `answer` says.
     fn bundle_for_trust_domain(
         &self,
         trust_domain: &TrustDomain,

@@ -35,7 +35,8 @@ impl Model for JwtAuthority {
 }
 
 impl JwtAuthority {
-    /// Reads one JWK, which is not a key set; take `JwtBundle::from_jwt_authorities` for that.
+    /// Reads one JWK, which is not a key set; take `JwtBundle::from_jwt_authorities` for that. `Deserialize` where it is no JSON whose numbers
+    /// are whole, `MissingKeyId` where it is no object with a text `kid`, `OutOfMemory`.
     #[tactic(auto, unfolding(crate::specs::JwtAuthority::jwk_of))]
     pub fn from_jwk_json(alloc: Global, jwk_json: &[u8]) -> Result<Self, JwtBundleError>
         ensures ok { IfOk result (λ a. jwk_of jwk_json.now ≡ Ok a) }
@@ -74,7 +75,7 @@ impl JwtAuthority {
         self.jwk_json.as_slice()
     }
 
-    /// A copy in memory of its own.
+    /// A copy in memory of its own. `OutOfMemory` alone refuses it.
     pub fn try_clone(&self, alloc: Global) -> Result<Self, JwtBundleError>
         ensures ok { IfOk result (λ a. a ≡ self.now) }
         ensures err { IfErr result (λ e. e ≡ JwtBundleError.OutOfMemory) }

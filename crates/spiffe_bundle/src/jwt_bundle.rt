@@ -65,7 +65,8 @@ impl JwtBundle {
         &self.trust_domain
     }
 
-    /// Reads the authorities from a JWK set (RFC 7517, section 5), whose keys must all have key IDs.
+    /// Reads the authorities from a JWK set (RFC 7517, section 5), whose keys must all have key IDs: `Deserialize` where it is no JSON whose
+    /// numbers are whole, or no object with an array `keys`, `MissingKeyId` where an element has no text `kid`, `OutOfMemory`.
     ///
     /// A SPIFFE bundle document holds keys of other uses too: pick out those for tokens before this call.
     #[tactic(auto, unfolding(crate::specs::KeySet::key_set_of))]
@@ -92,7 +93,7 @@ impl JwtBundle {
         self.jwt_authorities.get(key_id)
     }
 
-    /// Adds an authority, in place of one with its key ID.
+    /// Adds an authority, in place of one with its key ID. `OutOfMemory` alone refuses it, and then the bundle is as it was.
     pub fn add_jwt_authority(&mut self, authority: JwtAuthority) -> Result<(), JwtBundleError>
         ensures ok { OnOk result (self.new ≡ record self.old
             { authorities = with_authority self.old.authorities authority }) }
@@ -109,7 +110,8 @@ impl JwtBundle {
         Ok(())
     }
 
-    /// Reads one JWK and adds it, in place of one with its key ID.
+    /// Reads one JWK and adds it, in place of one with its key ID. It refuses as `JwtAuthority::from_jwk_json` does, and then the bundle is as
+    /// it was.
     pub fn add_jwk_authority_json(&mut self, jwk_json: &[u8]) -> Result<(), JwtBundleError>
         ensures ok { OnOk result ((a : Authority) × (jwk_of jwk_json.now ≡ Ok a)
             × (self.new ≡ record self.old
@@ -139,7 +141,7 @@ impl JwtBundle {
         self.jwt_authorities.len()
     }
 
-    /// A copy whose authorities are shared with this bundle.
+    /// A copy whose authorities are shared with this bundle. `OutOfMemory` alone refuses it.
     pub fn try_clone(&self, alloc: Global) -> Result<Self, JwtBundleError>
         ensures ok { IfOk result (λ b. b ≡ self.now) }
         ensures err { IfErr result (λ e. e ≡ JwtBundleError.OutOfMemory) }

@@ -47,7 +47,7 @@ impl JwtBundleSet {
         }
     }
 
-    /// Adds a bundle, in place of one of its trust domain.
+    /// Adds a bundle, in place of one of its trust domain. `OutOfMemory` alone refuses it, and then the set is as it was.
     pub fn add_bundle(&mut self, bundle: JwtBundle) -> Result<(), JwtBundleError>
         ensures ok { OnOk result (self.new ≡ with_bundle self.old bundle) }
         ensures found { OnOk result (find_bundle bundle.trust_domain self.new ≡ Some bundle) }
@@ -62,7 +62,7 @@ impl JwtBundleSet {
 
     /// A share of the bundle of a trust domain, which outlives the set.
     ///
-    /// A share can be refused; `get_ref` lends the bundle and can't.
+    /// A share can be refused, as `OutOfMemory` alone; `get_ref` lends the bundle and can't.
     pub fn get(&self, trust_domain: &TrustDomain) -> Result<Option<Arc<JwtBundle>>, JwtBundleError>
         ensures ok { IfOk result (λ o. option_map arc_value o ≡ find_bundle trust_domain.now self.now) }
         ensures named { IfOk result (λ o. IfSome o (λ b. (arc_value b).trust_domain ≡ trust_domain.now)) }
@@ -115,7 +115,7 @@ impl JwtBundleSet {
         self.get_ref(trust_domain)
     }
 
-    /// Adds bundles in turn. Where memory runs out, those before have been added.
+    /// Adds bundles in turn. Where memory runs out it answers `OutOfMemory`, and those before have been added.
     pub fn try_extend(&mut self, bundles: Vec<JwtBundle>) -> Result<(), JwtBundleError>
         ensures ok { OnOk result (self.new ≡ with_bundles self.old bundles.items) }
         ensures err { IfErr result (λ e. e ≡ JwtBundleError.OutOfMemory) }
@@ -127,7 +127,7 @@ impl JwtBundleSet {
         Ok(())
     }
 
-    /// The set of these bundles; of equal trust domains the last bundle is kept.
+    /// The set of these bundles; of equal trust domains the last bundle is kept. `OutOfMemory` alone refuses it.
     pub fn try_from_bundles(alloc: Global, bundles: Vec<JwtBundle>) -> Result<Self, JwtBundleError>
         ensures ok { IfOk result (λ s. s ≡ with_bundles [] bundles.items) }
         ensures err { IfErr result (λ e. e ≡ JwtBundleError.OutOfMemory) }
@@ -137,7 +137,7 @@ impl JwtBundleSet {
         Ok(set)
     }
 
-    /// A copy whose bundles are shared with this set.
+    /// A copy whose bundles are shared with this set. `OutOfMemory` alone refuses it.
     pub fn try_clone(&self, alloc: Global) -> Result<Self, JwtBundleError>
         ensures ok { IfOk result (λ s. s ≡ self.now) }
         ensures err { IfErr result (λ e. e ≡ JwtBundleError.OutOfMemory) }

@@ -6,7 +6,7 @@ use crate::spiffe_id::SpiffeId;
 use crate::trust_domain::TrustDomain;
 use std::alloc::Global;
 
-/// Reads the text that an id displays: it is that id again.
+/// Reads the text that an id displays: it is that id again. `OutOfMemory` alone refuses it.
 pub fn reread_id(alloc: Global, id: &SpiffeId) -> Result<SpiffeId, SpiffeIdError>
     ensures same { IfOk result (λ v. v ≡ id.now) }
     ensures memory { IfErr result (λ e. e ≡ SpiffeIdError.OutOfMemory) }
@@ -17,7 +17,7 @@ pub fn reread_id(alloc: Global, id: &SpiffeId) -> Result<SpiffeId, SpiffeIdError
     SpiffeId::new(alloc, text.as_str())
 }
 
-/// Compares the texts that two ids display: they are equal exactly where the ids are.
+/// Compares the texts that two ids display: they are equal exactly where the ids are. `OutOfMemory` alone refuses it.
 pub fn have_same_text(alloc: Global, a: &SpiffeId, b: &SpiffeId) -> Result<bool, SpiffeIdError>
     ensures same { IfOk result (λ same. IsTrue same ↔ (a.now ≡ b.now)) }
     ensures memory { IfErr result (λ e. e ≡ SpiffeIdError.OutOfMemory) }
@@ -31,7 +31,7 @@ pub fn have_same_text(alloc: Global, a: &SpiffeId, b: &SpiffeId) -> Result<bool,
     Ok(first.as_str() == second.as_str())
 }
 
-/// Reads the name of a trust domain: it is that trust domain again.
+/// Reads the name of a trust domain: it is that trust domain again. `OutOfMemory` alone refuses it.
 pub fn reread_trust_domain(
     alloc: Global,
     domain: &TrustDomain,
@@ -42,7 +42,7 @@ pub fn reread_trust_domain(
     TrustDomain::new(alloc, domain.as_str())
 }
 
-/// Reads the id of a trust domain: it names that trust domain again.
+/// Reads the id of a trust domain: it names that trust domain again. `OutOfMemory` alone refuses it.
 pub fn reread_trust_domain_id(
     alloc: Global,
     domain: &TrustDomain,

@@ -45,7 +45,7 @@ impl Model for SpiffeId {
 }
 
 impl SpiffeId {
-    /// Reads an id from its URI. The whole text has no limit in length.
+    /// Reads an id from its URI, or answers the first rule that the text breaks, or `OutOfMemory`. The whole text has no limit in length.
     #[tactic(auto, unfolding(crate::specs::SpiffeId::id_of))]
     pub fn new(alloc: Global, id: &str) -> Result<Self, SpiffeIdError>
         ensures ok { IfOk result (λ v. id_of id.now ≡ Ok v) }
@@ -57,7 +57,8 @@ impl SpiffeId {
         Ok(SpiffeId { trust_domain, path })
     }
 
-    /// Makes an id in a trust domain from the segments of its path, which hold no slashes.
+    /// Makes an id in a trust domain from the segments of its path, which hold no slashes, or answers the first rule that these break,
+    /// `SpiffeIdTooLong` above 2048 bytes in all, or `OutOfMemory`.
     ///
     /// Without segments it is the id of the trust domain itself.
     #[tactic(auto, unfolding(crate::specs::SpiffeId::id_from))]

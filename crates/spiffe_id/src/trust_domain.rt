@@ -42,7 +42,8 @@ impl Model for TrustDomain {
 }
 
 impl TrustDomain {
-    /// Reads a trust domain from its name, or from an id of which only the trust domain is looked at.
+    /// Reads a trust domain from its name, or from an id of which only the trust domain is looked at. It answers the first rule that the text
+    /// breaks, or `OutOfMemory`.
     ///
     /// Take `SpiffeId::new` to judge an id's path too.
     #[tactic(auto, unfolding(crate::specs::TrustDomain::trust_domain_of))]
@@ -71,7 +72,7 @@ impl TrustDomain {
         self.name.as_str()
     }
 
-    /// The id of the trust domain itself, whose path is empty.
+    /// The id of the trust domain itself, whose path is empty. `OutOfMemory` alone refuses it.
     pub fn id_string(&self, alloc: Global) -> Result<String, SpiffeIdError>
         ensures ok { IfOk result (λ s. string_bytes s ≡ codes "spiffe://" ++ self.now) }
         ensures err { IfErr result (λ e. e ≡ SpiffeIdError.OutOfMemory) }

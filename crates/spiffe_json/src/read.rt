@@ -10,7 +10,8 @@ use crate::error::{JsonError, ReadError};
 use serde_json::{Map, Value};
 use std::alloc::{AllocError, Global};
 
-/// Reads one JSON value and refuses numbers that aren't whole, wherever they stand in it.
+/// Reads one JSON value (RFC 8259) and refuses numbers that aren't whole, wherever they stand in it, as `Number`; bytes that are no such value
+/// are `Syntax`, and that comes first. Or there is no memory.
 ///
 /// Of members with one name only the last is in the value, so what an earlier one held is not looked at.
 #[tactic(auto, unfolding(crate::specs::Json::whole_json))]
@@ -27,7 +28,7 @@ pub fn read_json(alloc: Global, bytes: &[u8]) -> Result<Value, ReadError>
     Ok(value)
 }
 
-/// Writes a value without blanks, the names of each object in ascending order.
+/// Writes a value without blanks, the names of each object in ascending order. Want of memory alone refuses it.
 pub fn write_json(alloc: Global, value: &Value) -> Result<Vec<u8>, AllocError>
     requires whole { has_float (view value.now) ≡ false }
     ensures text { IfOk result (λ bytes. bytes.items ≡ compact_text (view value.now)) }

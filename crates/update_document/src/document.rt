@@ -108,7 +108,8 @@ fn read_content<'a, E: Decode<'a>, B: Decode<'a>>(
     })
 }
 
-/// Reads all of the bytes as one document, whatever its entries and its bundles are.
+/// Reads all of the bytes as one document, whatever its entries and its bundles are: `Malformed` where they begin with none, `TrailingData`
+/// where they have more behind it, `OutOfMemory`.
 pub fn read_document<'a, E: Decode<'a>, B: Decode<'a>>(
     alloc: Global,
     bytes: &'a [u8],

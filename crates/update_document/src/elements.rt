@@ -6,6 +6,7 @@ use der_small::{Cursor, Decode, Error, Result};
 use std::alloc::Global;
 
 /// Reads a content as the encodings of values of one type, one behind the other. It is the content of a SEQUENCE OF, without tag and length.
+/// `Malformed` where it isn't such a list, or `OutOfMemory`.
 pub fn decode_all<'a, T: Decode<'a>>(alloc: Global, content: &'a [u8]) -> Result<Vec<T>>
     ensures value { IfOk result (λ values. Elements T.Reads values.items content.now) }
     ensures none { IsErrOf result Error.Malformed → (values : List T) → Elements T.Reads values content.now → ⊥ }

@@ -5,7 +5,7 @@ ghost use Rattle.der_core.specs.Sequence.{TwoFields, ThreeFields};
 
 use der_core::{Cursor, Decode, DecodeValue, Error, FixedTag, Tag};
 
-/// The text, the private key and the public key of an entry.
+/// The text, the private key and the public key of an entry, as a sequence of three fields.
 #[derive(Drop)]
 pub struct EntryFields<Text, Private, Public> {
     /// The text of its SPIFFE ID.
@@ -18,7 +18,7 @@ pub struct EntryFields<Text, Private, Public> {
     pub public_key: Public,
 }
 
-/// The text and the key set of a bundle.
+/// The text and the key set of a bundle, as a sequence of two fields.
 #[derive(Drop)]
 pub struct BundleFields<Text, Keys> {
     /// The text of its trust domain.
@@ -48,15 +48,9 @@ impl<'a, Text: Decode<'a>, Private: Decode<'a>, Public: Decode<'a>> DecodeValue<
 
     fn decode_value(cursor: &mut Cursor<'a>) -> Result<Self, Error> {
         let mut at = Cursor::new(cursor.rest());
-        let Ok(text) = Text::decode(&mut at) else {
-            return Err(Error::Malformed);
-        };
-        let Ok(private_key) = Private::decode(&mut at) else {
-            return Err(Error::Malformed);
-        };
-        let Ok(public_key) = Public::decode(&mut at) else {
-            return Err(Error::Malformed);
-        };
+        let text = Text::decode(&mut at)?;
+        let private_key = Private::decode(&mut at)?;
+        let public_key = Public::decode(&mut at)?;
         if !at.is_finished() {
             return Err(Error::Malformed);
         }
@@ -88,12 +82,8 @@ impl<'a, Text: Decode<'a>, Keys: Decode<'a>> DecodeValue<'a> for BundleFields<Te
 
     fn decode_value(cursor: &mut Cursor<'a>) -> Result<Self, Error> {
         let mut at = Cursor::new(cursor.rest());
-        let Ok(text) = Text::decode(&mut at) else {
-            return Err(Error::Malformed);
-        };
-        let Ok(jwks) = Keys::decode(&mut at) else {
-            return Err(Error::Malformed);
-        };
+        let text = Text::decode(&mut at)?;
+        let jwks = Keys::decode(&mut at)?;
         if !at.is_finished() {
             return Err(Error::Malformed);
         }

@@ -1,8 +1,7 @@
 //! Laws of update documents, each as the contract of a function.
-ghost use Rattle.std.specs.Prelude.{◌≡◌, ◌≤◌, ◌<◌, ◌^◌, List, ℕ, length};
+ghost use Rattle.std.specs.Prelude.{◌≡◌, ◌<◌, ◌^◌, List, ℕ, length};
 ghost use Rattle.std.specs.List.{flat_map};
 ghost use Rattle.update_document.specs.Elements.{Elements};
-ghost use Rattle.update_document.specs.Spelling.{document_der};
 ghost use Rattle.update_document.specs.Written.{ReadsUpdate, WrittenUpdate};
 
 use der_small::Lawful;
@@ -16,9 +15,4 @@ pub fn lists_are_written<'a, T: Lawful<'a>>()
 /// Bytes are the document of one update at most.
 pub fn documents_have_one_update()
     ensures { (bytes : List ℕ) (one other : WrittenUpdate) → ReadsUpdate bytes one → ReadsUpdate bytes other → one ≡ other }
-{}
-
-/// What is written of a document is no longer than what was read: it differs by the extensions of private keys, which are not written.
-pub fn written_documents_are_no_longer()
-    ensures { (bytes : List ℕ) (update : WrittenUpdate) → ReadsUpdate bytes update → length (document_der update) ≤ length bytes }
 {}

@@ -24,7 +24,8 @@ pub type BundleRef<'a> = BundleFields<Utf8Ref<'a>, OctetStringRef<'a>>;
 /// What an update document writes, in borrowed bytes.
 pub type UpdateFields<'a> = DocumentFields<'a, EntryRef<'a>, BundleRef<'a>>;
 
-/// Reads all of the bytes as one update document. No rule on what it writes is tried.
+/// Reads all of the bytes as one update document. No rule on what it writes is tried. `Malformed` where the bytes begin with no document,
+/// `TrailingData` where they have more behind it, `OutOfMemory`.
 pub fn read_update(alloc: Global, bytes: &[u8]) -> Result<UpdateFields<'_>, Error>
     ensures { FromDerOwned written_update ReadsUpdate bytes.now result }
 {
