@@ -3,6 +3,7 @@ ghost use Rattle.std.specs.Prelude.{◌≡◌, ◌≤◌, length, option_map};
 ghost use Rattle.std.specs.Process.{exit_status};
 ghost use Rattle.bundle_selection.specs.Notice.{selection_notice};
 ghost use Rattle.bundle_selection.specs.Selection.{HasRun};
+ghost use Rattle.command_line.specs.Outcome.{streams_of};
 ghost use Rattle.command_line.specs.Status.{status_number};
 ghost use Rattle.command_line.specs.declared.status.Status.{Status};
 
@@ -39,8 +40,8 @@ pub fn run_over<S: Source, K: Sink>(
     out: &mut K,
 ) -> ExitCode
     ensures ran { (status : Status) × (exit_status result ≡ status_number status) × HasRun LIMIT (length words.now)
-        (record { left = S.left input.old; read_faults = S.faults input.old; written = K.written out.old; write_faults = K.faults out.old })
-        (record { left = S.left input.new; read_faults = S.faults input.new; written = K.written out.new; write_faults = K.faults out.new })
+        (streams_of S.left S.faults K.written K.faults input.old out.old)
+        (streams_of S.left S.faults K.written K.faults input.new out.new)
         status (input.new ≡ input.old) (out.new ≡ out.old) }
     ensures later { (S.faults input.old ≤ S.faults input.new) × (K.faults out.old ≤ K.faults out.new) }
 {

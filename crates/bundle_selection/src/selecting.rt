@@ -2,7 +2,7 @@
 ghost use Rattle.std.specs.Prelude.{◌≡◌, ◌≢◌, ◌≤◌, ◌<◌, ◌↔◌, IfOk, length};
 ghost use Rattle.bundle_document.specs.Reading.{document_of};
 ghost use Rattle.bundle_selection.specs.Selection.{Selects, selected_status, selected_text};
-ghost use Rattle.command_line.specs.Outcome.{Calm, HasSize, IsCalm, IsUntouched, Within};
+ghost use Rattle.command_line.specs.Outcome.{Calm, HasSize, IsCalm, IsUntouched, Within, streams_of};
 ghost use Rattle.command_line.specs.declared.status.Status.{Status};
 
 use crate::refusal::refusal_text;
@@ -45,8 +45,8 @@ pub fn select<S: Source, K: Sink>(
     ensures usage { result ≡ Status.Usage ↔ (0 < length words.now) }
     ensures not_begun { result ≡ Status.Usage → (input.new ≡ input.old) × (out.new ≡ out.old) }
     ensures selects { result ≢ Status.Usage → Selects
-        (record { left = S.left input.old; read_faults = S.faults input.old; written = K.written out.old; write_faults = K.faults out.old })
-        (record { left = S.left input.new; read_faults = S.faults input.new; written = K.written out.new; write_faults = K.faults out.new }) result }
+        (streams_of S.left S.faults K.written K.faults input.old out.old)
+        (streams_of S.left S.faults K.written K.faults input.new out.new) result }
     ensures size { HasSize LIMIT (S.left input.old) result }
     ensures untouched { IsUntouched result (out.new ≡ out.old) }
     ensures calm { length words.now ≡ 0 → Calm (S.faults input.old) (S.faults input.new) → Calm (K.faults out.old) (K.faults out.new)

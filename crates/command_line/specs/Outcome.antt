@@ -11,6 +11,11 @@ pub record Streams : Type 0 where
   pub written : Option (List ℕ)
   pub write_faults : ℕ
 
+-- those of a source and a sink, by what their traits tell of them
+abbrev pub streams_of : {S K : Type 0} → (S → Option (List ℕ)) → (S → ℕ) → (K → Option (List ℕ)) → (K → ℕ) → S → K → Streams
+streams_of left read_faults written write_faults source sink =
+    record { left = left source; read_faults = read_faults source; written = written sink; write_faults = write_faults sink }
+
 -- the size of the input by the status: an answer is of one within the limit, and only a longer one is too long
 abbrev pub HasSize : ℕ → Option (List ℕ) → Status → Type 0
 HasSize limit left Done = IfSome left (λ text. length text ≤ limit)

@@ -23,6 +23,11 @@ pub record Devices : Type 0 where
   pub written : Option (List ℕ)
   pub write_faults : ℕ
 
+-- those of a disk and a sink, by what their traits tell of them
+abbrev pub devices_of : {D K : Type 0} → (D → Option Files) → (D → ℕ) → (K → Option (List ℕ)) → (K → ℕ) → D → K → Devices
+devices_of files read_faults written write_faults disk sink =
+    record { files = files disk; read_faults = read_faults disk; written = written sink; write_faults = write_faults sink }
+
 -- what is printed for an order: the text of the update that the manifest is packed to, or the line of the first broken rule
 abbrev pub Prints : Option Files → Order → List ℕ → Status → Type 0
 Prints files order printed Done = (u : UpdateParts) × IsTextOf order.width LF u printed

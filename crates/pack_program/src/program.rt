@@ -5,7 +5,7 @@ ghost use Rattle.command_line.specs.Status.{status_number};
 ghost use Rattle.command_line.specs.Words.{texts};
 ghost use Rattle.command_line.specs.declared.status.Status.{Status};
 ghost use Rattle.pack_program.specs.Notice.{packing_notice};
-ghost use Rattle.pack_program.specs.Run.{HasRun};
+ghost use Rattle.pack_program.specs.Run.{HasRun, devices_of};
 
 use crate::running::run;
 use command_line::{Status, end, unread, words_of};
@@ -40,8 +40,8 @@ pub fn run_over<D: Disk, K: Sink>(
     out: &mut K,
 ) -> ExitCode
     ensures ran { (status : Status) × (exit_status result ≡ status_number status) × HasRun (texts words.now)
-        (record { files = D.files disk.old; read_faults = D.faults disk.old; written = K.written out.old; write_faults = K.faults out.old })
-        (record { files = D.files disk.new; read_faults = D.faults disk.new; written = K.written out.new; write_faults = K.faults out.new })
+        (devices_of D.files D.faults K.written K.faults disk.old out.old)
+        (devices_of D.files D.faults K.written K.faults disk.new out.new)
         status (disk.new ≡ disk.old) (out.new ≡ out.old) }
     ensures later { (D.faults disk.old ≤ D.faults disk.new) × (K.faults out.old ≤ K.faults out.new) }
 {

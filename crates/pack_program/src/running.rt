@@ -3,7 +3,7 @@ ghost use Rattle.std.specs.Prelude.{◌≡◌, ◌≢◌, ◌≤◌, ◌↔◌, 
 ghost use Rattle.command_line.specs.Outcome.{Calm, IsCalm, IsUntouched};
 ghost use Rattle.command_line.specs.declared.status.Status.{Status};
 ghost use Rattle.command_line.specs.Words.{texts};
-ghost use Rattle.pack_program.specs.Run.{Prints, Runs, Stops};
+ghost use Rattle.pack_program.specs.Run.{Prints, Runs, Stops, devices_of};
 ghost use Rattle.pack_program.specs.Views.{order_of};
 ghost use Rattle.pack_program.specs.Words.{IsCommand, IsUsage, Order};
 
@@ -57,8 +57,8 @@ pub fn run<D: Disk, K: Sink>(alloc: Global, words: &[String], disk: &mut D, out:
     ensures usage { result ≡ Status.Usage ↔ IsUsage (texts words.now) }
     ensures not_begun { result ≡ Status.Usage → (disk.new ≡ disk.old) × (out.new ≡ out.old) }
     ensures runs { result ≢ Status.Usage → (order : Order) × IsCommand (texts words.now) order × Runs order
-        (record { files = D.files disk.old; read_faults = D.faults disk.old; written = K.written out.old; write_faults = K.faults out.old })
-        (record { files = D.files disk.new; read_faults = D.faults disk.new; written = K.written out.new; write_faults = K.faults out.new }) result }
+        (devices_of D.files D.faults K.written K.faults disk.old out.old)
+        (devices_of D.files D.faults K.written K.faults disk.new out.new) result }
     ensures untouched { IsUntouched result (out.new ≡ out.old) }
     ensures calm { (order : Order) → IsCommand (texts words.now) order → Calm (D.faults disk.old) (D.faults disk.new)
         → Calm (K.faults out.old) (K.faults out.new) → IsCalm result }

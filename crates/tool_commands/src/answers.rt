@@ -1,6 +1,6 @@
 //! The answer to an update text: its report, or the line of its refusal.
 ghost use Rattle.std.specs.Prelude.{◌≡◌, ◌≢◌, ◌≤◌, ◌<◌, IfOk, IfSome, length, string_bytes};
-ghost use Rattle.command_line.specs.Outcome.{HasSize, IsUntouched};
+ghost use Rattle.command_line.specs.Outcome.{HasSize, IsUntouched, streams_of};
 ghost use Rattle.tool_commands.specs.Outcome.{Answers, Shows};
 ghost use Rattle.refusal_lines.specs.Refusal.{refusal_line};
 ghost use Rattle.command_line.specs.declared.status.Status.{Status};
@@ -56,8 +56,8 @@ fn answer_to(alloc: Global, width: usize, text: Vec<u8>) -> Result<Answer, Alloc
 /// up to `LIMIT` bytes, waits for nobody, and writes nothing before the answer is whole.
 pub fn report<S: Source, K: Sink>(alloc: Global, width: usize, input: &mut S, out: &mut K) -> Status
     ensures shows { Shows width
-        (record { left = S.left input.old; read_faults = S.faults input.old; written = K.written out.old; write_faults = K.faults out.old })
-        (record { left = S.left input.new; read_faults = S.faults input.new; written = K.written out.new; write_faults = K.faults out.new }) result }
+        (streams_of S.left S.faults K.written K.faults input.old out.old)
+        (streams_of S.left S.faults K.written K.faults input.new out.new) result }
     ensures size { HasSize LIMIT (S.left input.old) result }
     ensures untouched { IsUntouched result (out.new ≡ out.old) }
     ensures later { (S.faults input.old ≤ S.faults input.new) × (K.faults out.old ≤ K.faults out.new) }

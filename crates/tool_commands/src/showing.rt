@@ -2,7 +2,7 @@
 ghost use Rattle.std.specs.Prelude.{◌≡◌, ◌≢◌, ◌≤◌, ◌⊎◌, ◌∷◌, [], IfOk};
 ghost use Rattle.identity_source.specs.Reader.{IsFresh};
 ghost use Rattle.identity_source.specs.State.{opening};
-ghost use Rattle.command_line.specs.Outcome.{HasSize, IsUntouched};
+ghost use Rattle.command_line.specs.Outcome.{HasSize, IsUntouched, streams_of};
 ghost use Rattle.tool_commands.specs.Outcome.{Answers, Shows};
 ghost use Rattle.tool_commands.specs.Report.{report_of};
 
@@ -99,8 +99,8 @@ pub fn show<R: Wait, S: Source, K: Sink>(
     out: &mut K,
 ) -> Status
     ensures shows { Shows width
-        (record { left = S.left input.old; read_faults = S.faults input.old; written = K.written out.old; write_faults = K.faults out.old })
-        (record { left = S.left input.new; read_faults = S.faults input.new; written = K.written out.new; write_faults = K.faults out.new }) result }
+        (streams_of S.left S.faults K.written K.faults input.old out.old)
+        (streams_of S.left S.faults K.written K.faults input.new out.new) result }
     ensures size { HasSize LIMIT (S.left input.old) result }
     ensures untouched { IsUntouched result (out.new ≡ out.old) }
     ensures later { (S.faults input.old ≤ S.faults input.new) × (K.faults out.old ≤ K.faults out.new) }

@@ -1,5 +1,6 @@
 //! The top call.
 ghost use Rattle.std.specs.Prelude.{◌≡◌, ◌≢◌, ◌≤◌, ◌↔◌, ℕ};
+ghost use Rattle.command_line.specs.Outcome.{streams_of};
 ghost use Rattle.command_line.specs.declared.status.Status.{Status};
 ghost use Rattle.tool_program.specs.Runs.{Ran};
 ghost use Rattle.command_line.specs.Words.{texts};
@@ -27,8 +28,8 @@ pub fn run<R: Threads + Wait + Sync, S: Source, K: Sink>(
     ensures usage { result ≡ Status.Usage ↔ IsUsage (texts words.now) }
     ensures not_begun { result ≡ Status.Usage → (input.new ≡ input.old) × (out.new ≡ out.old) }
     ensures ran { result ≢ Status.Usage → (command : Command) × IsCommand (texts words.now) command × Ran LIMIT command
-        (record { left = S.left input.old; read_faults = S.faults input.old; written = K.written out.old; write_faults = K.faults out.old })
-        (record { left = S.left input.new; read_faults = S.faults input.new; written = K.written out.new; write_faults = K.faults out.new })
+        (streams_of S.left S.faults K.written K.faults input.old out.old)
+        (streams_of S.left S.faults K.written K.faults input.new out.new)
         result (input.new ≡ input.old) (out.new ≡ out.old) }
     ensures later { (S.faults input.old ≤ S.faults input.new) × (K.faults out.old ≤ K.faults out.new) }
 {

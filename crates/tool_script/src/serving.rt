@@ -2,7 +2,7 @@
 ghost use Rattle.std.specs.Prelude.{◌≡◌, ◌≤◌, ◌⊎◌, ◌∷◌, []};
 ghost use Rattle.identity_source.specs.Reader.{IsFresh};
 ghost use Rattle.identity_source.specs.State.{opening};
-ghost use Rattle.command_line.specs.Outcome.{Calm};
+ghost use Rattle.command_line.specs.Outcome.{Calm, streams_of};
 ghost use Rattle.tool_script.specs.Session.{EndsWell, Serves};
 ghost use Rattle.command_line.specs.declared.status.Status.TheVariants as status;
 
@@ -30,8 +30,8 @@ fn serve<R: Wait, S: Source, K: Sink>(
     requires opened { source.old.list ≡ opening 0 ∷ [] }
     requires fresh { IsFresh source.old reader.old }
     ensures serves { Serves width
-        (record { left = S.left input.old; read_faults = S.faults input.old; written = K.written out.old; write_faults = K.faults out.old })
-        (record { left = S.left input.new; read_faults = S.faults input.new; written = K.written out.new; write_faults = K.faults out.new }) result }
+        (streams_of S.left S.faults K.written K.faults input.old out.old)
+        (streams_of S.left S.faults K.written K.faults input.new out.new) result }
     ensures later { (S.faults input.old ≤ S.faults input.new) × (K.faults out.old ≤ K.faults out.new) }
 {
     let mut ahead = Ahead::new(alloc);
@@ -68,8 +68,8 @@ pub fn session<R: Wait, S: Source, K: Sink>(
     out: &mut K,
 ) -> Status
     ensures serves { Serves width
-        (record { left = S.left input.old; read_faults = S.faults input.old; written = K.written out.old; write_faults = K.faults out.old })
-        (record { left = S.left input.new; read_faults = S.faults input.new; written = K.written out.new; write_faults = K.faults out.new }) result }
+        (streams_of S.left S.faults K.written K.faults input.old out.old)
+        (streams_of S.left S.faults K.written K.faults input.new out.new) result }
     ensures complete { Calm (S.faults input.old) (S.faults input.new) → Calm (K.faults out.old) (K.faults out.new) → EndsWell (S.left input.old)
         → (result ≡ status.Done) ⊎ (result ≡ status.OutOfMemory) }
     ensures later { (S.faults input.old ≤ S.faults input.new) × (K.faults out.old ≤ K.faults out.new) }

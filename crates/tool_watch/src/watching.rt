@@ -2,7 +2,7 @@
 ghost use Rattle.std.specs.Prelude.{◌≡◌, ◌≤◌, ◌<◌, ◌⊎◌, ◌∷◌, [], ℕ, All, IfOk, length, slice_index_or, vec_len};
 ghost use Rattle.identity_source.specs.History.{last_revision};
 ghost use Rattle.identity_source.specs.State.{opening};
-ghost use Rattle.command_line.specs.Outcome.{Calm};
+ghost use Rattle.command_line.specs.Outcome.{Calm, streams_of};
 ghost use Rattle.command_line.specs.declared.status.Status.TheVariants as status;
 ghost use Rattle.tool_watch.specs.Applied.{HaveReplies, IsKept, IsList};
 ghost use Rattle.tool_watch.specs.Asked.{updates_in};
@@ -178,8 +178,8 @@ pub fn watch<R: Threads + Wait + Sync, S: Source, K: Sink, G: Gate + Sync>(
 ) -> Status
     requires { (1 ≤ workers) × (workers ≤ 8) }
     ensures watches { Watches width workers
-        (record { left = S.left input.old; read_faults = S.faults input.old; written = K.written out.old; write_faults = K.faults out.old })
-        (record { left = S.left input.new; read_faults = S.faults input.new; written = K.written out.new; write_faults = K.faults out.new }) result }
+        (streams_of S.left S.faults K.written K.faults input.old out.old)
+        (streams_of S.left S.faults K.written K.faults input.new out.new) result }
     ensures complete { Calm (S.faults input.old) (S.faults input.new) → Calm (K.faults out.old) (K.faults out.new) → EndsWell (S.left input.old)
         → (result ≡ status.Done) ⊎ (result ≡ status.OutOfMemory) }
     ensures later { (S.faults input.old ≤ S.faults input.new) × (K.faults out.old ≤ K.faults out.new) }
