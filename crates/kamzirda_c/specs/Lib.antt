@@ -1,0 +1,4 @@
+-- What the contracts of the exports cite.
+pub mod Status
+pub mod Buffers
+pub mod Base64
