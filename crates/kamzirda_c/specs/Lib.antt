@@ -2,3 +2,6 @@
 pub mod Status
 pub mod Buffers
 pub mod Base64
+pub mod Rules
+pub mod Ids
+pub mod Keys

@@ -5,4 +5,8 @@
 #![tactic(auto)]
 
 mod base64;
+mod buffers;
+mod ids;
+mod keys;
 mod status;
+mod texts;
