@@ -5,3 +5,4 @@ pub mod Base64
 pub mod Rules
 pub mod Ids
 pub mod Keys
+pub mod Updates

@@ -2,6 +2,10 @@
 use Rattle.std.specs.Prelude.{ℕ, ◌==◌, List, [], codes, if◌then◌else◌}
 use Rattle.spiffe_id.specs.declared.error.SpiffeIdError.{SpiffeIdError}
 use Rattle.spiffe_id.specs.declared.error.SpiffeIdError.TheVariants as id
+use Rattle.base64_text.specs.declared.errors.Error.TheVariants as base64
+use Rattle.der_core.specs.declared.error.Error.TheVariants as der
+use Rattle.identity_update.specs.declared.error.UpdateError.{UpdateError}
+use Rattle.identity_update.specs.declared.error.UpdateError.TheVariants as update
 
 -- no rule
 abbrev pub no_rule : ℕ
@@ -29,6 +33,24 @@ id_rule_number id.TrailingSlash = 28
 id_rule_number (id.SpiffeIdTooLong _) = 29
 id_rule_number (id.TrustDomainTooLong _) = 30
 id_rule_number id.OutOfMemory = no_rule
+
+-- of an update
+abbrev pub update_rule_number : UpdateError → ℕ
+update_rule_number update.RevisionsUsedUp = no_rule
+update_rule_number (update.Text base64.InvalidEncoding) = 1
+update_rule_number (update.Text base64.InvalidLength) = 2
+update_rule_number (update.Text base64.OutOfMemory) = no_rule
+update_rule_number (update.Document (der.TrailingData _ _)) = trailing_data
+update_rule_number (update.Document _) = malformed
+update_rule_number update.MissingRequiredField = 5
+update_rule_number update.WithdrawalWithEntries = 6
+update_rule_number (update.Subject _ _) = 7
+update_rule_number (update.AlgorithmMismatch _) = 8
+update_rule_number (update.PublicKeyMismatch _) = 9
+update_rule_number (update.Domain _ _) = 10
+update_rule_number (update.Authorities _ _) = 11
+update_rule_number (update.MissingBundle _) = 12
+update_rule_number update.OutOfMemory = no_rule
 
 -- what a rule's breach is called; a number that is no rule has no text
 abbrev pub rule_text : ℕ → List ℕ

@@ -8,5 +8,7 @@ mod base64;
 mod buffers;
 mod ids;
 mod keys;
+mod parts;
 mod status;
 mod texts;
+mod updates;
