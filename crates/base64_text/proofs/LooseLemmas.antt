@@ -290,7 +290,7 @@ is_loose end table src padded q at some whole clean =
       some = omega (arith, ne);
       whole = (λ e. omega (arith, ne), λ e. omega (arith, ne));
       last = ap (drop (3 * q)) split ∙ drop_at (bytes_of_blocks end table (take (4 * q) src)) (loose_bytes (form end table padded) (drop (4 * q) src))
-      (3 * q) blocks;
+          (3 * q) blocks;
       split = split;
     }
 

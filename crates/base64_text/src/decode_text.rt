@@ -1,11 +1,10 @@
 //! Decoding of whole texts.
 #![tactic(auto)]
 
-ghost use Rattle.std.specs.Prelude.{◌≡◌, ℕ, ◌<◌, ◌≤◌, ◌+◌, ◌-◌, ◌*◌, ◌/◌, ◌%◌, ◌++◌, ◌↔◌, List, length, take, drop, IfOk, IfErr, IsOkAnd, true, false, ◌≢◌};
-ghost use Rattle.std.specs.Prelude.{if◌then◌else◌};
-ghost use Rattle.base64_alphabet.specs.Encoding.{encoding_of, bytes_of_blocks};
-ghost use Rattle.base64_alphabet.specs.Table.{all_in};
-ghost use Rattle.base64_text.specs.Canonical.{IsBytes, IsDecodeError, IsDecodeVecError, HasWholeBlocks, decoded_len, has_lengths, unpadded_len};
+ghost use Rattle.std.specs.Prelude.{◌≡◌, ℕ, ◌<◌, ◌≤◌, ◌+◌, ◌*◌, ◌/◌, ◌%◌, ◌↔◌, List, length, IfOk, IfErr, true, false, ◌≢◌, if◌then◌else◌};
+ghost use Rattle.base64_alphabet.specs.Encoding.{encoding_of};
+ghost use Rattle.base64_text.specs.Answers.{Decodes, DecodesBlocks};
+ghost use Rattle.base64_text.specs.Canonical.{IsBytes, IsDecodeVecError, HasWholeBlocks, has_lengths};
 ghost use Rattle.base64_text.specs.Counts.{decode_count, encode_count};
 
 use crate::encode_text::encode_into;
@@ -24,17 +23,7 @@ pub(crate) fn decode_counting<E: Alphabet, L: Ledger>(
     dst: &mut [u8],
     steps: &mut Steps<L>,
 ) -> Result<usize, Error>
-    ensures within { IfOk result (λ n. n ≤ length dst.old) }
-    ensures ok { IfOk result (λ n. src.now ≡ encoding_of E.form (take n dst.new)) }
-    ensures bytes { IfOk result (λ n. IsBytes (take n dst.new)) }
-    ensures value { (b : List ℕ) → IsBytes b → src.now ≡ encoding_of E.form b
-        → IfOk result (λ n. take n dst.new ≡ b) }
-    ensures accepted { (b : List ℕ) → IsBytes b → src.now ≡ encoding_of E.form b
-        → length b ≤ length dst.old → IsOkAnd result (λ n. take n dst.new ≡ b) }
-    ensures rest { IfOk result (λ n. drop n dst.new ≡ drop n dst.old) }
-    ensures behind { drop (decoded_len (unpadded_len E.form.padded src.now)) dst.new ≡ drop (decoded_len (unpadded_len E.form.padded src.now)) dst.old }
-    ensures untouched { has_lengths E.form.padded src.now (length dst.old) ≡ false → dst.new ≡ dst.old }
-    ensures err { IfErr result (IsDecodeError E.form src.now (length dst.old)) }
+    ensures answers { Decodes E.form src.now dst.old dst.new result }
     ensures steps { steps.new ≡ steps.old
         + (if has_lengths E.form.padded src.now (length dst.old) then decode_count E.form.table E.form.padded src.now else 0) }
 {
@@ -73,17 +62,7 @@ fn is_encoding<E: Alphabet, L: Ledger>(block: &[u8], bytes: &[u8], steps: &mut S
 
 /// `decode_counting` without a count.
 pub(crate) fn decode_into<E: Alphabet>(src: &[u8], dst: &mut [u8]) -> Result<usize, Error>
-    ensures within { IfOk result (λ n. n ≤ length dst.old) }
-    ensures ok { IfOk result (λ n. src.now ≡ encoding_of E.form (take n dst.new)) }
-    ensures bytes { IfOk result (λ n. IsBytes (take n dst.new)) }
-    ensures value { (b : List ℕ) → IsBytes b → src.now ≡ encoding_of E.form b
-        → IfOk result (λ n. take n dst.new ≡ b) }
-    ensures accepted { (b : List ℕ) → IsBytes b → src.now ≡ encoding_of E.form b
-        → length b ≤ length dst.old → IsOkAnd result (λ n. take n dst.new ≡ b) }
-    ensures rest { IfOk result (λ n. drop n dst.new ≡ drop n dst.old) }
-    ensures behind { drop (decoded_len (unpadded_len E.form.padded src.now)) dst.new ≡ drop (decoded_len (unpadded_len E.form.padded src.now)) dst.old }
-    ensures untouched { has_lengths E.form.padded src.now (length dst.old) ≡ false → dst.new ≡ dst.old }
-    ensures err { IfErr result (IsDecodeError E.form src.now (length dst.old)) }
+    ensures { Decodes E.form src.now dst.old dst.new result }
 {
     decode_from::<E, Brand>(src, dst, Blank::new(1))
 }
@@ -96,17 +75,7 @@ fn decode_from<E: Alphabet, L: Ledger>(
     requires name { blank.name ≡ L.name }
     requires parts { blank.parts ≡ L.parts }
     requires share { 0 < blank.parts }
-    ensures within { IfOk result (λ n. n ≤ length dst.old) }
-    ensures ok { IfOk result (λ n. src.now ≡ encoding_of E.form (take n dst.new)) }
-    ensures bytes { IfOk result (λ n. IsBytes (take n dst.new)) }
-    ensures value { (b : List ℕ) → IsBytes b → src.now ≡ encoding_of E.form b
-        → IfOk result (λ n. take n dst.new ≡ b) }
-    ensures accepted { (b : List ℕ) → IsBytes b → src.now ≡ encoding_of E.form b
-        → length b ≤ length dst.old → IsOkAnd result (λ n. take n dst.new ≡ b) }
-    ensures rest { IfOk result (λ n. drop n dst.new ≡ drop n dst.old) }
-    ensures behind { drop (decoded_len (unpadded_len E.form.padded src.now)) dst.new ≡ drop (decoded_len (unpadded_len E.form.padded src.now)) dst.old }
-    ensures untouched { has_lengths E.form.padded src.now (length dst.old) ≡ false → dst.new ≡ dst.old }
-    ensures err { IfErr result (IsDecodeError E.form src.now (length dst.old)) }
+    ensures { Decodes E.form src.now dst.old dst.new result }
 {
     let mut steps = Steps::<L>::new(blank);
     decode_counting::<E, L>(src, dst, &mut steps)
@@ -135,9 +104,7 @@ pub(crate) fn decode_to_vec<E: Alphabet>(alloc: Global, src: &[u8]) -> Result<Ve
 pub fn decode_front<E: Alphabet>(src: &[u8], dst: &mut [u8]) -> bool
     requires whole { length src.now % 4 ≡ 0 }
     requires room { 3 * (length src.now / 4) ≤ length dst.old }
-    ensures answer { result ≡ all_in E.form.table src.now }
-    ensures written { all_in E.form.table src.now ≡ true →
-        dst.new ≡ bytes_of_blocks E.form.end E.form.table src.now ++ drop (3 * (length src.now / 4)) dst.old }
+    ensures { DecodesBlocks E.form src.now dst.old dst.new result }
 {
     front_counted::<E, Brand>(src, dst, Blank::new(1))
 }
@@ -148,9 +115,7 @@ fn front_counted<E: Alphabet, L: Ledger>(src: &[u8], dst: &mut [u8], blank: Blan
     requires share { 0 < blank.parts }
     requires whole { length src.now % 4 ≡ 0 }
     requires room { 3 * (length src.now / 4) ≤ length dst.old }
-    ensures answer { result ≡ all_in E.form.table src.now }
-    ensures written { all_in E.form.table src.now ≡ true →
-        dst.new ≡ bytes_of_blocks E.form.end E.form.table src.now ++ drop (3 * (length src.now / 4)) dst.old }
+    ensures { DecodesBlocks E.form src.now dst.old dst.new result }
 {
     let mut steps = Steps::<L>::new(blank);
     decode_blocks::<E, L>(src, dst, &mut steps)

@@ -1,9 +1,10 @@
 //! Encoding of bytes.
 #![tactic(auto)]
 
-ghost use Rattle.std.specs.Prelude.{◌≡◌, ℕ, ◌≤◌, ◌<◌, ◌+◌, ◌*◌, ◌/◌, ◌%◌, ◌^◌, ◌↔◌, length, take, drop, IsSome, IfSome, IfNone, is_some, if◌then◌else◌, IfOk};
+ghost use Rattle.std.specs.Prelude.{◌≡◌, ℕ, ◌≤◌, ◌<◌, ◌+◌, ◌*◌, ◌/◌, ◌%◌, ◌^◌, ◌↔◌, length, take, drop, IsSome, IfSome, is_some, if◌then◌else◌, IfOk};
 ghost use Rattle.std.specs.Prelude.{IfErr, Err, IsAscii, string_bytes};
 ghost use Rattle.base64_alphabet.specs.Encoding.{encoding_of};
+ghost use Rattle.base64_text.specs.Answers.{Encodes, IsEncoded};
 ghost use Rattle.base64_text.specs.Canonical.{IsEncodeStringError};
 ghost use Rattle.base64_text.specs.Counts.{encoded_len, encode_count};
 
@@ -20,8 +21,7 @@ pub(crate) fn encode_into<E: Alphabet, L: Ledger>(
     steps: &mut Steps<L>,
 ) -> usize
     requires room { encoded_len E.form.padded (length src.now) ≤ length dst.old }
-    ensures len { result ≡ encoded_len E.form.padded (length src.now) }
-    ensures text { take result dst.new ≡ encoding_of E.form src.now }
+    ensures encoded { IsEncoded E.form src.now dst.new result }
     ensures rest { drop result dst.new ≡ drop result dst.old }
     ensures steps { steps.new ≡ steps.old + encode_count E.form.padded (length src.now) }
 {
@@ -38,12 +38,7 @@ pub(crate) fn encode_fitting<E: Alphabet, L: Ledger>(
     dst: &mut [u8],
     steps: &mut Steps<L>,
 ) -> Option<usize>
-    ensures within { IfSome result (λ n. n ≤ length dst.old) }
-    ensures text { IfSome result (λ n. take n dst.new ≡ encoding_of E.form src.now) }
-    ensures rest { IfSome result (λ n. drop n dst.new ≡ drop n dst.old) }
-    ensures same { IfNone result (dst.new ≡ dst.old) }
-    ensures ascii { IfSome result (λ n. IsAscii (take n dst.new)) }
-    ensures fits { IsSome result ↔ ((4 * length src.now < 2 ^ 64) × (encoded_len E.form.padded (length src.now) ≤ length dst.old)) }
+    ensures answers { Encodes E.form src.now dst.old dst.new result }
     ensures steps { steps.new ≡ steps.old + (if is_some result then encode_count E.form.padded (length src.now) else 0) }
 {
     let len = encoded_length(src.len(), E::PADDED)?;
@@ -55,12 +50,7 @@ pub(crate) fn encode_fitting<E: Alphabet, L: Ledger>(
 
 /// `encode_fitting` without a count.
 pub(crate) fn encode_plainly<E: Alphabet>(src: &[u8], dst: &mut [u8]) -> Option<usize>
-    ensures within { IfSome result (λ n. n ≤ length dst.old) }
-    ensures text { IfSome result (λ n. take n dst.new ≡ encoding_of E.form src.now) }
-    ensures rest { IfSome result (λ n. drop n dst.new ≡ drop n dst.old) }
-    ensures same { IfNone result (dst.new ≡ dst.old) }
-    ensures ascii { IfSome result (λ n. IsAscii (take n dst.new)) }
-    ensures fits { IsSome result ↔ ((4 * length src.now < 2 ^ 64) × (encoded_len E.form.padded (length src.now) ≤ length dst.old)) }
+    ensures { Encodes E.form src.now dst.old dst.new result }
 {
     encode_from::<E, Brand>(src, dst, Blank::new(1))
 }
@@ -69,12 +59,7 @@ fn encode_from<E: Alphabet, L: Ledger>(src: &[u8], dst: &mut [u8], blank: Blank)
     requires name { blank.name ≡ L.name }
     requires parts { blank.parts ≡ L.parts }
     requires share { 0 < blank.parts }
-    ensures within { IfSome result (λ n. n ≤ length dst.old) }
-    ensures text { IfSome result (λ n. take n dst.new ≡ encoding_of E.form src.now) }
-    ensures rest { IfSome result (λ n. drop n dst.new ≡ drop n dst.old) }
-    ensures same { IfNone result (dst.new ≡ dst.old) }
-    ensures ascii { IfSome result (λ n. IsAscii (take n dst.new)) }
-    ensures fits { IsSome result ↔ ((4 * length src.now < 2 ^ 64) × (encoded_len E.form.padded (length src.now) ≤ length dst.old)) }
+    ensures { Encodes E.form src.now dst.old dst.new result }
 {
     let mut steps = Steps::<L>::new(blank);
     encode_fitting::<E, L>(src, dst, &mut steps)
@@ -83,8 +68,7 @@ fn encode_from<E: Alphabet, L: Ledger>(src: &[u8], dst: &mut [u8], blank: Blank)
 /// `encode_into` without a count.
 pub fn encode_front<E: Alphabet>(src: &[u8], dst: &mut [u8]) -> usize
     requires room { encoded_len E.form.padded (length src.now) ≤ length dst.old }
-    ensures len { result ≡ encoded_len E.form.padded (length src.now) }
-    ensures text { take result dst.new ≡ encoding_of E.form src.now }
+    ensures { IsEncoded E.form src.now dst.new result }
 {
     front_from::<E, Brand>(src, dst, Blank::new(1))
 }
@@ -94,8 +78,7 @@ fn front_from<E: Alphabet, L: Ledger>(src: &[u8], dst: &mut [u8], blank: Blank) 
     requires parts { blank.parts ≡ L.parts }
     requires share { 0 < blank.parts }
     requires room { encoded_len E.form.padded (length src.now) ≤ length dst.old }
-    ensures len { result ≡ encoded_len E.form.padded (length src.now) }
-    ensures text { take result dst.new ≡ encoding_of E.form src.now }
+    ensures { IsEncoded E.form src.now dst.new result }
 {
     let mut steps = Steps::<L>::new(blank);
     encode_into::<E, L>(src, dst, &mut steps)

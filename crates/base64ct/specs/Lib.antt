@@ -2,6 +2,7 @@ pub use Rattle.base64_alphabet.specs.Encoding
 pub use Rattle.base64_alphabet.specs.Form
 pub use Rattle.base64_alphabet.specs.Group
 pub use Rattle.base64_alphabet.specs.Table
+pub use Rattle.base64_text.specs.Answers
 pub use Rattle.base64_text.specs.Canonical
 pub use Rattle.base64_text.specs.Counts
 pub use Rattle.base64_text.specs.Errors

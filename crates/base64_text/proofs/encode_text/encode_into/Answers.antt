@@ -1,4 +1,4 @@
-use Rattle.std.proofs.Common.{◌≡◌, ℕ, ◌+◌, ◌-◌, ap, length-drop, ◌*◌, ◌/◌, ◌≤◌, List, length, take, drop, arith, refl, slice_range, sym, ◌∙◌}
+use Rattle.std.proofs.Common.{◌≡◌, ℕ, ◌+◌, ◌-◌, ap, length-drop, ◌*◌, ◌/◌, ◌≤◌, List, length, take, drop, arith, refl, slice_range, sym, ◌∙◌, rules}
 use Rattle.std.proofs.lemmas.Grind.{common_steps}
 use Rattle.std.proofs.lemmas.List.{length-take-le}
 use Rattle.base64_alphabet.specs.Encoding.{encoding_of}
@@ -9,8 +9,8 @@ use Rattle.base64_text.proofs.RestLemmas.{front_kept, rest_kept}
 use Rattle.base64_text.proofs.WholeLemmas.{length-characters}
 use Rattle.base64_text.proofs.encode_text.encode_into.Goals as goal
 
-pub returns-clause-text : goal.returns-clause-text
-returns-clause-text g c =
+pub returns-clause-encoded : goal.returns-clause-encoded
+returns-clause-encoded g c =
     let src : List ℕ = c.args.src.now in
     let q : ℕ = length c.args.src.now / 3 in
     let k : ℕ = c.encode_rest-len.result.1 in
@@ -28,10 +28,13 @@ returns-clause-text g c =
     let few : encoded_len g.E.Alphabet.form.padded (length c.args.src.now - 3 * q) ≤ 4 = few_len g.E.Alphabet.form.padded (length c.args.src.now - 3 * q)
     (omega arith) in
     let long : length (take k c.encode_rest-len.result.0) ≡ k = length-take-le k c.encode_rest-len.result.0 (omega arith) in
-    encoded_text g.E.Alphabet.form.end g.E.Alphabet.form.table c.args.src.now c.encode_blocks.new.dst _ c.copy_from_slice.new.self
-    (take k c.encode_rest-len.result.0)
-    g.E.Alphabet.form.padded q k refl room
-    c.encode_blocks.ensures.written c.copy_from_slice.ensures.after long text
+    record {
+      len = search rules;
+      text = encoded_text g.E.Alphabet.form.end g.E.Alphabet.form.table c.args.src.now c.encode_blocks.new.dst _ c.copy_from_slice.new.self
+          (take k c.encode_rest-len.result.0)
+          g.E.Alphabet.form.padded q k refl room
+          c.encode_blocks.ensures.written c.copy_from_slice.ensures.after long text;
+    }
 
 pub returns-clause-rest : goal.returns-clause-rest
 returns-clause-rest g c =
