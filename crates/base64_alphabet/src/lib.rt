@@ -2,15 +2,13 @@
 //! table look-up or a branch on a character, and the conversion of groups of three bytes and of whole
 //! blocks of four characters.
 //!
-//! ```text
-//! let mut text = [0; 4];
-//! Base64::encode_3bytes(b"foo", &mut text);
-//! assert_eq!(text, *b"Zm9v");
-//!
-//! let mut bytes = [0; 3];
-//! assert_eq!(Base64::decode_3bytes(&text, &mut bytes), 0);
-//! assert_eq!(bytes, *b"foo");
-//! assert_eq!(Base64::decode_6bits(b'!'), -1);
+//! ```rust
+//! /// The four characters of three bytes, and the place of a character in the alphabet, or -1.
+//! pub fn one_group(bytes: &[u8; 3], character: u8) -> ([u8; 4], i16) {
+//!     let mut text = [0; 4];
+//!     Base64::encode_3bytes(bytes, &mut text);
+//!     (text, Base64::decode_6bits(character))
+//! }
 //! ```
 #![tactic(auto)]
 

@@ -1,11 +1,11 @@
 //! Further alphabets of Base64: the one safe in URLs, with padding and without, and those of bcrypt
 //! and PBKDF2. They stand apart from `base64_alphabet`, which has what an alphabet is.
 //!
-//! ```text
-//! assert_eq!(Base64Url::encode_6bits(62), b'-');
-//! assert_eq!(Base64Pbkdf2::encode_6bits(62), b'.');
-//! assert_eq!(Base64Bcrypt::decode_6bits(b'.'), 0);
-//! assert_eq!(Base64UrlUnpadded::decode_6bits(b'+'), -1);
+//! ```rust
+//! /// The bytes that an untrusted text stands for, in the alphabet of URLs without padding.
+//! pub fn decode_untrusted(alloc: Global, text: &str) -> Result<Vec<u8>, Error> {
+//!     Base64UrlUnpadded::decode_vec(alloc, text)
+//! }
 //! ```
 #![tactic(auto)]
 

@@ -1,12 +1,14 @@
 //! The alphabet of `crypt`: read from the high end as in its DES form, and from the low one as in its
 //! SHA-256 and SHA-512 forms.
 //!
-//! ```text
-//! let mut text = [0; 4];
-//! Base64Crypt::encode_3bytes(&[1, 0, 0], &mut text);
-//! assert_eq!(text, *b".E..");
-//! Base64ShaCrypt::encode_3bytes(&[1, 0, 0], &mut text);
-//! assert_eq!(text, *b"/...");
+//! ```rust
+//! /// The characters of three bytes in the alphabet of crypt, read from the high end and, for SHA-crypt, from the low one.
+//! pub fn both_ends(bytes: &[u8; 3]) -> ([u8; 4], [u8; 4]) {
+//!     let (mut high, mut low) = ([0; 4], [0; 4]);
+//!     Base64Crypt::encode_3bytes(bytes, &mut high);
+//!     Base64ShaCrypt::encode_3bytes(bytes, &mut low);
+//!     (high, low)
+//! }
 //! ```
 #![tactic(auto)]
 

@@ -1,11 +1,11 @@
 //! Base64 (RFC 4648) of whole texts: encodings of whole lists of bytes, their refusals, and the parts of both
 //! that texts in lines are made of. `base64ct` offers it with encoders and decoders of lines.
 //!
-//! ```text
-//! assert_eq!(Base64::encode_string(alloc, b"foob")?, "Zm9vYg==");
-//! assert_eq!(Base64::decode_vec(alloc, "Zm9vYg==")?, b"foob");
-//! assert_eq!(Base64::decode_vec(alloc, "Zm9vYh=="), Err(Error::InvalidEncoding));
-//! assert_eq!(Base64Unpadded::decode(b"Zm9vYg", &mut room)?, b"foob");
+//! ```rust
+//! /// The bytes that an untrusted text stands for, in the alphabet of URLs without padding.
+//! pub fn decode_untrusted(alloc: Global, text: &str) -> Result<Vec<u8>, Error> {
+//!     Base64UrlUnpadded::decode_vec(alloc, text)
+//! }
 //! ```
 #![tactic(auto)]
 

@@ -1,17 +1,14 @@
 //! Base64 (RFC 4648) in eight alphabets, without a table look-up or a branch on a character: whole texts
 //! by `Encoding`, and texts in lines (as in RFC 7468) by `Encoder` and `Decoder`.
 //!
-//! ```text
-//! let mut room = [0; 9];
-//! let mut encoder: Encoder<Base64> = Encoder::new_wrapped(&mut room, 4, LineEnding::LF)?;
-//! encoder.encode(b"fo")?;
-//! encoder.encode(b"obar")?;
-//! assert_eq!(encoder.finish()?, "Zm9v\nYmFy");
-//!
-//! let mut bytes = [0; 6];
-//! let mut decoder: Decoder<Base64> = Decoder::new_wrapped(b"Zm9v\r\nYmFy", 4)?;
-//! assert_eq!(decoder.decode(&mut bytes)?, b"foobar");
-//! assert!(decoder.is_finished());
+//! ```rust
+//! /// The first four bytes of a text in lines of 64 characters, whatever ends them, and how many bytes follow.
+//! pub fn read_head(text: &[u8]) -> Result<([u8; 4], usize), Error> {
+//!     let mut head = [0; 4];
+//!     let mut decoder: Decoder<Base64> = Decoder::new_wrapped(text, 64)?;
+//!     decoder.decode(&mut head)?;
+//!     Ok((head, decoder.remaining_len()))
+//! }
 //! ```
 #![tactic(auto)]
 

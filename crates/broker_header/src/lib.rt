@@ -1,14 +1,15 @@
 //! The security header of the SPIFFE Broker API: a [`SecurityHeader`] sets it in the [`Metadata`] of each call, after a
 //! function of the caller's. It ports a part of the crate `spiffe` and is offered under Apache-2.0 alone.
 //!
-//! ```text
-//! let mut metadata = Metadata::new(alloc);
-//! metadata.insert("k", "v")?;
-//!
-//! let mut header = SecurityHeader::new();
-//! let metadata = header.call(metadata)?;
-//! assert_eq!(metadata.get("broker.spiffe.io"), Some("true"));
-//! assert_eq!(metadata.get("k"), Some("v"));
+//! ```rust
+//! /// Metadata with the header, and without an entry that isn't to leave.
+//! pub fn with_header(metadata: Metadata) -> Result<Metadata, CallError> {
+//!     let mut header = SecurityHeader::with_interceptor(|metadata: &mut Metadata| {
+//!         metadata.remove("authorization");
+//!         Ok(())
+//!     });
+//!     header.call(metadata)
+//! }
 //! ```
 #![tactic(auto)]
 

@@ -1,13 +1,12 @@
 //! SPIFFE bundle documents: what a trust domain publishes at its bundle endpoint becomes the key set of a bundle of
 //! an update, or the answer names the first rule that the document breaks.
 //!
-//! ```text
-//! let document = BundleDocument::read(alloc, br#"{"keys":[{"use":"jwt-svid","kid":"a","kty":"EC"}],"spiffe_sequence":7}"#)?;
-//! assert_eq!(document.sequence(), Some(7));
-//! assert_eq!(document.jwks(), br#"{"keys":[{"kid":"a","kty":"EC","use":"jwt-svid"}]}"#);
-//!
-//! let mut feed = BundleFeed::new();
-//! feed.offer(document)?;
+//! ```rust
+//! /// Offers a document that was fetched, and gives the sequence number of the one that is kept.
+//! pub fn newest(feed: &mut BundleFeed, fetched: BundleDocument) -> Option<u64> {
+//!     let _ = feed.offer(fetched);
+//!     feed.latest()?.sequence()
+//! }
 //! ```
 #![tactic(auto)]
 

@@ -1,11 +1,11 @@
 //! The program `bundle_keys` as a library: it reads a SPIFFE bundle document and writes the key set that a bundle of
 //! an update holds, or names the first rule that the document breaks.
 //!
-//! ```text
-//! let mut input = SureSource::new(br#"{"keys":[{"use":"jwt-svid","kid":"a","kty":"EC"}]}"#);
-//! let mut output = SureSink::new(&mut room);
-//! assert_eq!(select(alloc, &[], &mut input, &mut output), Status::Done);
-//! assert_eq!(output.written(), br#"{"keys":[{"kid":"a","kty":"EC","use":"jwt-svid"}]}"#);
+//! ```rust
+//! /// Writes the key set of a bundle document.
+//! pub fn keys_of_document<S: Source, K: Sink>(alloc: Global, input: &mut S, out: &mut K) -> Status {
+//!     select(alloc, &[], input, out)
+//! }
 //! ```
 #![tactic(auto)]
 

@@ -1,11 +1,14 @@
 //! What the programs of this repository share: the words behind a program's name, the numbers in them, how a run
 //! ends, and the exit status with what a person is told of it.
 //!
-//! ```text
-//! assert_eq!(read_number("64"), Some(64));
-//! assert_eq!(read_number("064"), None);
-//! assert_eq!(Status::SinkFailed.number(), 4);
-//! assert_eq!(Status::SinkFailed.notice(), Some("the output could not be written"));
+//! ```rust
+//! /// The width that a word writes, or the status of faulty words.
+//! pub fn width_of(word: &str) -> Result<usize, Status> {
+//!     match read_number(word) {
+//!         Some(width) => Ok(width as usize),
+//!         None => Err(Status::Usage),
+//!     }
+//! }
 //! ```
 #![tactic(auto)]
 

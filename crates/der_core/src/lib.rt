@@ -1,16 +1,11 @@
 //! The base of DER (X.690): tags, lengths, values of any tag, object identifiers, a reader over
 //! borrowed bytes, and the traits by which a type says what it is read from and written as.
 //!
-//! ```text
-//! let ed25519 = ObjectIdentifier::new("1.3.101.112")?;
-//! let encoding = ed25519.to_der(alloc)?;
-//! assert_eq!(encoding.as_slice(), [6, 3, 0x2b, 0x65, 0x70]);
-//!
-//! let mut cursor = Cursor::new(&encoding);
-//! let value = cursor.read_value()?;
-//! assert_eq!(value.tag().byte(), Tag::OID);
-//! assert_eq!(value.decode_as::<ObjectIdentifier>()?, ed25519);
-//! assert!(cursor.is_finished());
+//! ```rust
+//! /// How many octets a document holds, where it is one octet string and nothing more.
+//! pub fn octets_of(document: &[u8]) -> der_small::Result<usize> {
+//!     Ok(OctetStringRef::from_der(document)?.as_bytes().len())
+//! }
 //! ```
 //!
 //! `crates/der_tests/src/visit.rt` has a type of three fields, read and written, as an example of a type of one's own.

@@ -2,15 +2,11 @@
 //! values of any tag, each in borrowed bytes and most with bytes of their own, the traits by which
 //! further types are read and written, and documents of one value with their files.
 //!
-//! ```text
-//! let text = Utf8Ref::new("a")?;
-//! let document = Document::encode_msg(alloc, &text)?;
-//! assert_eq!(document.as_bytes(), [0x0c, 1, 0x61]);
-//! assert_eq!(document.decode_msg::<Utf8Ref>()?, text);
-//!
-//! assert_eq!(OctetStringRef::from_der(document.as_bytes()), Err(Error::Malformed));
-//! document.write_der_file(&mut disk, "text.der")?;
-//! assert_eq!(Document::read_der_file(alloc, &mut disk, "text.der")?, document);
+//! ```rust
+//! /// The document of one text.
+//! pub fn text_document(alloc: Global, text: &str) -> der_small::Result<Document> {
+//!     Document::encode_msg(alloc, &Utf8Ref::new(text)?)
+//! }
 //! ```
 #![tactic(auto)]
 

@@ -2,14 +2,16 @@
 //! the traits, forms in memory that fail on demand, adapters over std's readers and writers, and
 //! reading or writing a whole input.
 //!
-//! ```text
-//! let mut source = MemorySource::new(b"bytes", &[1], 2);
-//! assert_eq!(source.read(&mut piece), Ok(2));
-//! assert_eq!(source.read(&mut piece), Err(Failed));
-//!
-//! let mut sink = SureSink::new(&mut room);
-//! write_all(&mut sink, &read_all(alloc, &mut source)?)?;
-//! assert_eq!(sink.written(), b"tes");
+//! ```rust
+//! /// Copies all that is left of a source to a sink; `false` where the sink failed.
+//! pub fn copy<S: Source, K: Sink>(
+//!     alloc: Global,
+//!     source: &mut S,
+//!     sink: &mut K,
+//! ) -> Result<bool, ReadError> {
+//!     let bytes = read_all(alloc, source)?;
+//!     Ok(write_all(sink, &bytes).is_ok())
+//! }
 //! ```
 #![tactic(auto)]
 

@@ -1,5 +1,5 @@
 -- What a reader's calls do, over any window.
-use Rattle.std.proofs.Common.{◌≡◌, ℕ, ◌+◌, ◌-◌, ◌<◌, ◌≤◌, Bool, true, false, cond, nat_le, Option, Some, None, List, ◌∷◌, length, take, length-append, refl}
+use Rattle.std.proofs.Common.{◌≡◌, ℕ, ◌+◌, ◌-◌, ◌<◌, ◌≤◌, Bool, true, false, cond, nat_le, Option, Some, None, Result, Ok, Err, List, ◌∷◌, length, take, length-append, refl}
 use Rattle.std.proofs.Common.{sym, ap, ◌∙◌, subst, ⊎_elim, le_refl, arith}
 use Rattle.std.proofs.lemmas.List.{take_all, length-take}
 use Rattle.std.proofs.lemmas.Bool.{le-leb}
@@ -7,7 +7,7 @@ use Rattle.std.proofs.lemmas.Bool.Decides.{leb_tells}
 use Rattle.identity_source.specs.State.{PlainState}
 use Rattle.identity_source.specs.History.{IsHistory, StartsWith, EndsWith, EachBegins, first_revision}
 use Rattle.identity_source.specs.NamedList.{NamedList}
-use Rattle.identity_source.specs.Sight.{Sight, Goes, Looked as Looked_at, MissedBy, Learned, longer, with_misses}
+use Rattle.identity_source.specs.Sight.{Sight, Goes, Looked as Looked_at, MissedBy, MissedWithin, Learned, longer, will_miss, with_misses}
 use Rattle.identity_source.specs.Reader.{PlainReader, plain_reader, list_up_to, IsReader, Renewed, Told}
 use Rattle.identity_source.specs.declared.kept_reader.Look.{Look}
 use Rattle.identity_source.specs.declared.kept_reader.Look.TheVariants.{Looked, Missed}
@@ -15,14 +15,28 @@ use Rattle.identity_source.specs.declared.window.Missed.{Missed as Missed_why}
 use Rattle.identity_source.specs.declared.window.Missed.TheVariants.{NoPlace, NoGuard, OutOfMemory}
 use Rattle.identity_source.proofs.Histories.{either, counted, first_begins, begins_self, begins_take, begins_through, take_begins}
 
+-- what a look at the window says of planned misses
+pub record Tells (a b : Sight) (result : Result PlainState Missed_why) : Type 0 where
+  pub planned : will_miss a ≡ true → result ≡ Err NoGuard
+  pub passed : will_miss a ≡ false → result ≡ Err NoGuard → MissedWithin a.plan b.plan
+
+why_of : Result PlainState Missed_why → Missed_why
+why_of (Ok x) = NoPlace
+why_of (Err m) = m
+
+look_why : Option Look → Missed_why
+look_why (Some (Missed m)) = m
+look_why other = NoPlace
+
 pub record Renews (a b : Sight) (x : PlainState) (told : Option NamedList) (old : PlainReader) (look : Option Look) : Type 0 where
   pub is_reader : IsReader b x told
   pub renewed : Renewed old (plain_reader b x told look)
 
 -- the window gave the state y
 pub looked : (a b : Sight) (x y : PlainState) (told : Option NamedList) (l : Option Look) → IsReader a x told → Goes a b → Looked_at a b y
+    → Tells a b (Ok y)
     → Renews a b y None (plain_reader a x told l) (Some Looked)
-looked a b x y told l r goes saw =
+looked a b x y told l r goes saw tells =
     let first : first_revision b.seen ≡ b.name.first = first_begins b.seen a.seen saw.more r.seen ∙ (r.first ∙ ap (λ n. n.first) (sym goes.name)) in
     let n : ℕ = y.revision + 1 - b.name.first in
     let count : y.revision + 1 ≡ first_revision b.seen + length b.seen = counted b.seen y saw.history saw.last in
@@ -51,6 +65,11 @@ looked a b x y told l r goes saw =
           whole = whole;
           told =
               subst (λ (z : List PlainState). EachBegins z a.olds) (sym whole) saw.all;
+        };
+        planned = record {
+          goes = goes.plan;
+          misses = λ e. let wrong : Ok y ≡ Err NoGuard = tells.planned e in absurd cc;
+          passes = λ _ e. absurd cc;
         };
         begins = begins;
         history = subst IsHistory (sym whole) saw.history;
@@ -85,8 +104,9 @@ is_history a b NoGuard h why = why.history
 is_history a b OutOfMemory h why = why.history
 
 pub missed : (a b : Sight) (x : PlainState) (told : Option NamedList) (l : Option Look) (m : Missed_why) → IsReader a x told → Goes a b → MissedBy a b m
+    → Tells a b (Err m)
     → Renews a b x told (plain_reader a x told l) (Some (Missed m))
-missed a b x told l m r goes why =
+missed a b x told l m r goes why tells =
     let more : StartsWith b.seen a.seen = goes_on a b m why in
     let history : IsHistory b.seen = is_history a b m r.seen why in
     let same = stays a b x told r goes more in
@@ -107,6 +127,11 @@ missed a b x told l m r goes why =
         is_live = goes.is_live;
         olds = goes.olds;
         look = record { why = why; same = same };
+        planned = record {
+          goes = goes.plan;
+          misses = λ e. ap (λ r. Some (Missed (why_of r))) (tells.planned e);
+          passes = λ no e. tells.passed no (ap (λ o. Err (look_why o)) e);
+        };
         begins = subst (λ (z : List PlainState). StartsWith z (list_up_to a x told)) (sym same) (begins_self (list_up_to a x told));
         history = subst IsHistory (sym same) r.history;
         first = ap first_revision same ∙ (r.own ∙ sym name);
@@ -243,8 +268,10 @@ pub after_told : (old r s s' : PlainReader) (list : List PlainState) → r ≡ o
 after_told old r s s' list e f t = subst (λ (p : PlainReader × PlainReader). Told p.0 p.1 list) (λ i. (e i, f i)) t
 
 pub looked_none : (a b : Sight) (x y : PlainState) (told t : Option NamedList) (l : Option Look) → t ≡ None → IsReader a x told → Goes a b → Looked_at a b y
+    → Tells a b (Ok y)
     → Renews a b y t (plain_reader a x told l) (Some Looked)
-looked_none a b x y told t l e r goes saw = subst (λ z. Renews a b y z (plain_reader a x told l) (Some Looked)) (sym e) (looked a b x y told l r goes saw)
+looked_none a b x y told t l e r goes saw tells = subst (λ z. Renews a b y z (plain_reader a x told l) (Some Looked)) (sym e)
+    (looked a b x y told l r goes saw tells)
 
 pub heeds_at : (a b : Sight) (x y : PlainState) (told t : Option NamedList) (look : Option Look) (h h' : NamedList) → h' ≡ h → t ≡ Some h
     → IsReader a x told → Learned a b h'.list → h.name ≡ a.name → IsHistory h.list → first_revision h.list ≡ h.name.first → EndsWith h'.list y
@@ -263,9 +290,10 @@ keeps_at a b x y told look h h' same r l named history own last lt =
 pub along : (old r s : PlainReader) (list : List PlainState) → r ≡ old → Told r s list → Told old s list
 along old r s list e t = subst (λ z. Told z s list) e t
 
-relabelled_same : (s : Sight) (n : ℕ) (x : PlainState) (told : Option NamedList) → IsReader s x told → IsReader (with_misses s n) x told
-relabelled_same s n x None r = record { seen = r.seen; first = r.first; history = r.history; own = r.own; last = r.last; within = r.within; known = r.known }
-relabelled_same s n x (Some h) r = record {
+relabelled_same : (s : Sight) (numbers : List ℕ) (k n : ℕ) (x : PlainState) (told : Option NamedList) → IsReader s x told
+    → IsReader (with_misses s numbers k n) x told
+relabelled_same s numbers k n x None r = record { seen = r.seen; first = r.first; history = r.history; own = r.own; last = r.last; within = r.within; known = r.known }
+relabelled_same s numbers k n x (Some h) r = record {
   seen = r.seen;
   first = r.first;
   history = r.history;
@@ -276,6 +304,7 @@ relabelled_same s n x (Some h) r = record {
       r.known;
 }
 
--- other counts leave the reader as it is
-pub relabelled : (s t : Sight) (n : ℕ) (x : PlainState) (told : Option NamedList) → t ≡ with_misses s n → IsReader s x told → IsReader t x told
-relabelled s t n x told e r = subst (λ (z : Sight). IsReader z x told) (sym e) (relabelled_same s n x told r)
+-- a plan of misses and other counts leave the reader as it is
+pub relabelled : (s t : Sight) (numbers : List ℕ) (k n : ℕ) (x : PlainState) (told : Option NamedList) → t ≡ with_misses s numbers k n → IsReader s x told
+    → IsReader t x told
+relabelled s t numbers k n x told e r = subst (λ (z : Sight). IsReader z x told) (sym e) (relabelled_same s numbers k n x told r)

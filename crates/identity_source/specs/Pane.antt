@@ -31,9 +31,9 @@ sight_of name memo looks misses refused live = record {
   olds = olds_of memo;
   looks = looks;
   misses = misses;
-  refused =
-      refused;
+  refused = refused;
   is_live = live;
+  plan = None;
 }
 
 -- what a glance that gave no state did to what the reader knows
@@ -79,3 +79,4 @@ pub record IsFreshSight (h : NamedList) (s : Sight) : Type 0 where
   pub looks : s.looks ≡ 0
   pub misses : s.misses ≡ 0
   pub refused : s.refused ≡ 0
+  pub plan : s.plan ≡ None

@@ -1,15 +1,17 @@
 -- What contracts see of a reader, and what its calls do.
-use Rattle.std.specs.Prelude.{◌≡◌, ◌+◌, ◌-◌, ◌≤◌, true, Option, Some, None, List, [], length, take}
+use Rattle.std.specs.Prelude.{◌≡◌, ◌+◌, ◌-◌, ◌≤◌, true, false, Option, Some, None, List, [], length, take}
 use Rattle.identity_io.specs.Causes.{Rose}
 use Rattle.identity_source.specs.State.{PlainState}
 use Rattle.identity_source.specs.History.{IsHistory, StartsWith, EndsWith, EachBegins, first_revision}
 use Rattle.identity_source.specs.NamedList.{NamedList}
-use Rattle.identity_source.specs.Sight.{Sight, MissedBy, Learned, longer}
+use Rattle.identity_source.specs.Sight.{Sight, PlanGoes, MissedBy, MissedWithin, Learned, longer, will_miss}
 use Rattle.identity_source.specs.declared.window.Missed.{Missed as Missed_why}
+use Rattle.identity_source.specs.declared.window.Missed.TheVariants.{NoGuard}
 use Rattle.identity_source.specs.declared.kept_reader.Look.{Look}
 use Rattle.identity_source.specs.declared.kept_reader.Look.TheVariants.{Looked, Missed}
 
--- its window, its list, and how its last call of `current` came to its answer
+-- its window, its list, and how its last call of `current` came to its answer. Definitions tie the list to those of receipts; that it is a beginning of
+-- the source's own list the steps that both take at the published copies keep
 pub record PlainReader : Type 0 where
   pub sight : Sight
   pub list : List PlainState
@@ -24,6 +26,7 @@ pub record IsFresh (source : NamedList) (r : PlainReader) : Type 0 where
   pub looks : r.sight.looks ≡ 0
   pub misses : r.sight.misses ≡ 0
   pub refused : r.sight.refused ≡ 0
+  pub plan : r.sight.plan ≡ None
   pub look : r.look ≡ None
 
 -- the window gave the last state of all that it has seen, which begins with each list that the reader was told of; of its counts that of looks alone rose
@@ -45,6 +48,12 @@ LookSays a b None = ⊥
 LookSays a b (Some Looked) = LookedAt a b
 LookSays a b (Some (Missed missed)) = MissedAt a b missed
 
+-- a look misses where that is planned, and a miss that isn't planned is one of the window within
+pub record Planned (a b : PlainReader) : Type 0 where
+  pub goes : PlanGoes a.sight.plan b.sight.plan
+  pub misses : will_miss a.sight ≡ true → b.look ≡ Some (Missed NoGuard)
+  pub passes : will_miss a.sight ≡ false → b.look ≡ Some (Missed NoGuard) → MissedWithin a.sight.plan b.sight.plan
+
 -- what `current` does to the reader: its name and what it was told of stay, its list goes on or stays, and `look` says why; the list is a history
 -- from the source's first revision
 pub record Renewed (a b : PlainReader) : Type 0 where
@@ -52,6 +61,7 @@ pub record Renewed (a b : PlainReader) : Type 0 where
   pub is_live : b.sight.is_live ≡ a.sight.is_live
   pub olds : b.sight.olds ≡ a.sight.olds
   pub look : LookSays a b b.look
+  pub planned : Planned a b
   pub begins : StartsWith b.list a.list
   pub history : IsHistory b.list
   pub first : first_revision b.list ≡ b.sight.name.first

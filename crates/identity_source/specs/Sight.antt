@@ -1,5 +1,6 @@
 -- What contracts see of a window, and what its calls do.
-use Rattle.std.specs.Prelude.{◌≡◌, ℕ, ◌≤◌, Bool, true, false, cond, nat_le, List, ◌∷◌, length}
+use Rattle.std.specs.Prelude.{◌≡◌, ℕ, ◌+◌, ◌-◌, ◌^◌, ◌≤◌, min, Bool, true, false, ◌&&◌, cond, nat_eq, nat_le, Option, Some, None, List, ◌∷◌, length}
+use Rattle.std.specs.List.{list_any}
 use Rattle.identity_io.specs.Causes.{Rose}
 use Rattle.identity_source.specs.State.{PlainState}
 use Rattle.identity_source.specs.History.{IsHistory, StartsWith, EndsWith, EachBegins}
@@ -7,7 +8,14 @@ use Rattle.identity_source.specs.NamedList.{SourceName}
 use Rattle.identity_source.specs.declared.window.Missed.{Missed}
 use Rattle.identity_source.specs.declared.window.Missed.TheVariants.{NoPlace, NoGuard, OutOfMemory}
 
--- the source's name, the list that was seen, lists that it must begin with from the next look on, and counts of looks, misses and refused shares
+-- misses that are planned: the numbers of their looks, counted from 0, the number of the next look, and how many misses the window within has counted
+pub record Plan : Type 0 where
+  pub numbers : List ℕ
+  pub next : ℕ
+  pub within : ℕ
+
+-- the source's name, the list that was seen, lists that it must begin with from the next look on, counts of looks, misses and refused shares, and
+-- the misses that are planned, if this is a window of that kind
 pub record Sight : Type 0 where
   pub name : SourceName
   pub seen : List PlainState
@@ -16,6 +24,28 @@ pub record Sight : Type 0 where
   pub misses : ℕ
   pub refused : ℕ
   pub is_live : Bool
+  pub plan : Option Plan
+
+abbrev pub is_planned : Option Plan → Bool
+is_planned None = false
+is_planned (Some p) = list_any (λ number. nat_eq number p.next) p.numbers
+
+-- the next look is to miss, and the window is live
+abbrev pub will_miss : Sight → Bool
+will_miss s = is_planned s.plan && s.is_live
+
+-- one look later
+abbrev pub PlanGoes : Option Plan → Option Plan → Type 0
+PlanGoes None None = Unit {0}
+PlanGoes None (Some q) = ⊥
+PlanGoes (Some p) None = ⊥
+PlanGoes (Some p) (Some q) = (q.numbers ≡ p.numbers) × (q.next ≡ min (p.next + 1) (2 ^ 64 - 1))
+
+-- the window within missed
+abbrev pub MissedWithin : Option Plan → Option Plan → Type 0
+MissedWithin None q = Unit {0}
+MissedWithin (Some p) None = ⊥
+MissedWithin (Some p) (Some q) = Rose p.within q.within
 
 -- what entering never changes, and counts that don't fall
 pub record Goes (a b : Sight) : Type 0 where
@@ -25,6 +55,7 @@ pub record Goes (a b : Sight) : Type 0 where
   pub misses : a.misses ≤ b.misses
   pub refused : a.refused ≤ b.refused
   pub olds : b.olds ≡ a.olds
+  pub plan : PlanGoes a.plan b.plan
 
 -- a look that gave the state x, the last of a list that begins with all that was seen and told; of the counts that of looks alone rose
 pub record Looked (a b : Sight) (x : PlainState) : Type 0 where
@@ -80,8 +111,10 @@ pub record Learned (a b : Sight) (list : List PlainState) : Type 0 where
   pub looks : b.looks ≡ a.looks
   pub misses : b.misses ≡ a.misses
   pub refused : b.refused ≡ a.refused
+  pub plan : b.plan ≡ a.plan
   pub live : a.is_live ≡ true → TookIn a b list
   pub dead : a.is_live ≡ false → SameLists a b
 
-abbrev pub with_misses : Sight → ℕ → Sight
-with_misses s n = record s { misses = n }
+-- the same with a plan of misses and a count of its own
+abbrev pub with_misses : Sight → List ℕ → ℕ → ℕ → Sight
+with_misses s numbers next n = record s { misses = n; plan = Some (record { numbers = numbers; next = next; within = s.misses }) }

@@ -20,6 +20,8 @@ pub enum Look {
 ///
 /// Contracts see its window and its list: a history from the source's first revision, whose last state is
 /// the kept one. Where the window saw, it begins with the list of each receipt that the reader was told of.
+/// That the list of a reader that was told of nothing is a beginning of the source's own, the steps that both
+/// take at the published copies keep; no clause says it.
 #[derive(Drop)]
 pub struct KeptReader<W: Window> {
     window: W,

@@ -1,16 +1,21 @@
 //! The identity source: one owner applies updates, and readers on any thread get whole states without
-//! waiting. A source, its readers and its receipts stand for one list of states: `apply` appends one
-//! state or nothing, and a reader never goes back behind what it gave or was told of.
+//! waiting. A source and its receipts stand for one list of states: `apply` appends one state or nothing.
+//! A reader has a list of its own under the source's name: it never goes back behind what it gave or was told
+//! of, and after a look it begins with the list of each receipt that the reader was told of.
 //!
-//! ```text
-//! let (mut source, mut readers) = IdentitySource::open(rt, alloc, 0, 1)?;
-//! let receipt = source.apply(rt, b"MAowADAAgARnb25l", 64)?;
-//! assert_eq!(receipt.revision(), 1);
-//!
-//! let mut reader = readers.pop()?;
-//! reader.told(receipt);
-//! assert_eq!(reader.current().withdrawn(), Some("gone"));
-//! source.close(rt);
+//! ```rust
+//! /// Applies an update, tells a reader of it, and gives the revision of the state that the reader then has. `apply` may
+//! /// wait for readers; the reader doesn't wait.
+//! pub fn rotate<R: Wait>(
+//!     rt: &R,
+//!     source: &mut IdentitySource,
+//!     reader: &mut IdentityReader,
+//!     text: &[u8],
+//! ) -> Result<u64, UpdateError> {
+//!     let receipt = source.apply(rt, text, 64)?;
+//!     reader.told(receipt);
+//!     Ok(reader.current().revision())
+//! }
 //! ```
 #![tactic(auto)]
 

@@ -1,7 +1,7 @@
 //! A window that refuses some looks.
 ghost use Rattle.std.specs.Prelude.{◌≡◌};
 ghost use Rattle.identity_source.specs.History.{IsHistory};
-ghost use Rattle.identity_source.specs.Sight.{with_misses};
+ghost use Rattle.identity_source.specs.Sight.{will_miss, with_misses};
 
 use crate::receipt::Receipt;
 use crate::snapshot::Snapshot;
@@ -23,7 +23,7 @@ impl<W: Window> Model for Missing<W> {
 
     ghost Value = { Sight };
 
-    ghost view = { λ m. with_misses (W.sight m.window) m.misses };
+    ghost view = { λ m. with_misses (W.sight m.window) m.failing.items m.calls m.misses };
 
     ghost invariant = { λ m. IsHistory (W.sight m.window).seen };
 }
@@ -31,7 +31,7 @@ impl<W: Window> Model for Missing<W> {
 impl<W: Window> Missing<W> {
     pub(crate) fn of(window: W, failing: Vec<u64>) -> Missing<W>
         requires { IsHistory (W.sight window).seen }
-        ensures { result ≡ with_misses (W.sight window) 0 }
+        ensures { result ≡ with_misses (W.sight window) failing.items 0 0 }
     {
         Missing {
             window,
@@ -40,15 +40,21 @@ impl<W: Window> Missing<W> {
             misses: 0,
         }
     }
+
+    fn will_miss(&self) -> bool
+        ensures { result ≡ will_miss self.now }
+    {
+        self.failing.contains(&self.calls) && self.window.live()
+    }
 }
 
 impl<W: Window> Window for Missing<W> {
     ghost sight = { λ m. m };
 
     fn enter(&mut self) -> Result<Snapshot, Missed> {
-        let call = self.calls;
+        let planned = self.will_miss();
         self.calls = self.calls.saturating_add(1);
-        if self.window.live() && self.failing.contains(&call) {
+        if planned {
             self.misses = self.misses.saturating_add(1);
             return Err(Missed::NoGuard);
         }

@@ -91,7 +91,8 @@ fn seat_all(
 impl IdentitySource {
     /// Opens a source whose list is one opening state of this revision, and so many readers of it.
     ///
-    /// There is no reader yet to wait for: the bound is that of a publish.
+    /// It errs with `OutOfMemory` alone, and then there is no source. There is no reader yet to wait for: the bound is
+    /// that of a publish.
     pub fn open<R: Wait>(
         rt: &R,
         alloc: Global,

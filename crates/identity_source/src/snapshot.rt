@@ -38,7 +38,7 @@ impl Snapshot {
         })
     }
 
-    /// A further share of the same state.
+    /// A further share of the same state. It errs with `OutOfMemory` alone, where the share is refused.
     pub fn try_clone(&self) -> Result<Snapshot, SourceError>
         ensures { IfOk result (λ s. s ≡ self.now) }
     {

@@ -9,7 +9,8 @@ mod calls;
 
 /// The one end of a list of states that can append to it. It can't be dropped: end it by `close`.
 ///
-/// Contracts see it as its list, under the name that `open` gave to it and to its readers.
+/// Contracts see it as its list, under the name that `open` gave to it and to its readers. Of a reader's list they say
+/// what it has to do with those of receipts, and not that it is a beginning of this one.
 pub struct IdentitySource {
     writer: ListWriter,
     log: SourceLog,

@@ -2,11 +2,12 @@
 //! identities are withdrawn. An update is read from the Base64 of its document, or the answer names the first rule that
 //! the text breaks.
 //!
-//! ```text
-//! let update = Update::withdrawal(alloc, "gone", Vec::new(alloc))?;
-//! let text = update.to_text(alloc, 64, LineEnding::LF)?;
-//! assert_eq!(text, "MAowADAAgARnb25l");
-//! assert_eq!(Update::read(alloc, text.as_bytes(), 64)?, update);
+//! ```rust
+//! /// An update's text in lines of 76 characters, of one in lines of 64.
+//! pub fn rewrap(alloc: Global, text: &[u8]) -> Result<String, UpdateError> {
+//!     let update = Update::read(alloc, text, 64)?;
+//!     Ok(update.to_text(alloc, 76, LineEnding::CRLF)?)
+//! }
 //! ```
 #![tactic(auto)]
 

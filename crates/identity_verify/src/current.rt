@@ -34,10 +34,12 @@ pub struct Rejected<'r> {
     pub cause: VerifyError<Infallible>,
 }
 
-/// Judges a token by the state that a reader has now, which is read once: the verdict is that of the one whole
-/// state that is handed out with it.
+/// Judges a token by a state that the reader gives: the verdict is that of the one whole state that is handed out
+/// with it, the last of the list that one call of `current` gives the reader.
 ///
-/// The time is in nanoseconds from 1970-01-01T00:00:00Z on. See [`parse_and_validate`] for the rules.
+/// It errs as [`parse_and_validate`] does, but never with `BundleSourceError`, since a state has an answer for each trust
+/// domain. The time is in nanoseconds from 1970-01-01T00:00:00Z on. No clause says what the reader is afterwards: who goes
+/// on to tell it of receipts calls [`parse_and_validate`] over `reader.current()`.
 pub fn verify_current<'r, K: Backend>(
     alloc: Global,
     reader: &'r mut IdentityReader,

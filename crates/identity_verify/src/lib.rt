@@ -1,9 +1,18 @@
 //! Verification of JWT-SVIDs (JWT-SVID, section 4) without a network: a token is judged by the bundles that a source has.
 //! It ports a part of the crate `spiffe` and is offered under Apache-2.0 alone.
 //!
-//! ```text
-//! let verified = verify_current(alloc, &mut reader, token, &expected_audience, now, &backend)?;
-//! println!("{} is let in by state {}", verified.svid.spiffe_id(), verified.state.revision());
+//! ```rust
+//! /// Whether a token is good for this audience in the state that the reader has, at a time in nanoseconds since 1970.
+//! pub fn let_in<K: Backend>(
+//!     alloc: Global,
+//!     reader: &mut IdentityReader,
+//!     token: &str,
+//!     audience: &[String],
+//!     now: i128,
+//!     backend: &K,
+//! ) -> bool {
+//!     verify_current(alloc, reader, token, audience, now, backend).is_ok()
+//! }
 //! ```
 #![tactic(auto)]
 

@@ -242,6 +242,10 @@ where
 /// Judges a token by the bundles of a source, at a time in nanoseconds from 1970-01-01T00:00:00Z on.
 ///
 /// Its audiences must have one of the expected ones among them. The token is trusted as far as the backend is.
+///
+/// It errs with the first rule that breaks, of the time `now`, the text, header and claims, the authority that the token
+/// names, its key, the signature, the audience and the token's time, as the variants of [`VerifyError`] say, and with
+/// `OutOfMemory` where memory is refused.
 #[tactic(auto, unfolding(crate::specs::Verdict::verdict))]
 pub fn parse_and_validate<B: BundleSource<Item = JwtBundle>, K: Backend>(
     alloc: Global,

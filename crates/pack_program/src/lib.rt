@@ -1,10 +1,16 @@
 //! The program `identity_pack` as a library: it packs the key files that a manifest names into the text of an update,
 //! or names the first rule that they break.
 //!
-//! ```text
-//! // The words are `pack`, `manifest.json` and `64`.
-//! let status = run(alloc, &words, &mut disk, &mut output);
-//! assert_eq!(status, Status::Done);
+//! ```rust
+//! /// Packs what the words order, and writes the text or the line of the first broken rule.
+//! pub fn pack_order<D: Disk, K: Sink>(
+//!     alloc: Global,
+//!     words: &[String],
+//!     disk: &mut D,
+//!     out: &mut K,
+//! ) -> Status {
+//!     pack_program::run(alloc, words, disk, out)
+//! }
 //! ```
 #![tactic(auto)]
 

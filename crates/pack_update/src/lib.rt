@@ -1,8 +1,10 @@
 //! Packing: a manifest and the key files that it names become the text of an update, or the answer names the first rule that they break.
 //!
-//! ```text
-//! let text = pack(alloc, &mut disk, "manifest.json", 64, LineEnding::LF)?;
-//! let update = Update::read(alloc, text.as_bytes(), 64)?;
+//! ```rust
+//! /// The text of the update of a manifest's key files, in lines of 64 characters.
+//! pub fn packed<D: Disk>(alloc: Global, disk: &mut D) -> Result<String, PackError> {
+//!     pack(alloc, disk, "manifest.json", 64, base64ct::LineEnding::LF)
+//! }
 //! ```
 #![tactic(auto)]
 

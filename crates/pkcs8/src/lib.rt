@@ -4,7 +4,8 @@
 //! A key is written with all that was read of it but extensions. To pass it on without its friendly name:
 //!
 //! ```rust
-//! fn without_attributes(alloc: Global, document: &[u8]) -> pkcs8::Result<SecretDocument> {
+//! /// A private key's document without its attributes.
+//! pub fn without_attributes(alloc: Global, document: &[u8]) -> pkcs8::Result<SecretDocument> {
 //!     let mut key = PrivateKeyInfoRef::from_der(document)?;
 //!     key.attributes = None;
 //!     key.to_secret_document(alloc)

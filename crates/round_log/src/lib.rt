@@ -1,14 +1,6 @@
 //! A log that one owner appends to in rounds of two entries, over `logbook`. A round begins with an entry that may be refused and ends with one that can't be,
 //! so what is done between the two can be noted whatever came of it. Anyone may keep a token of the log as it was: of
 //! two tokens of one log the shorter begins the longer.
-//!
-//! ```text
-//! let mut log: RoundLog<Sale> = RoundLog::open();
-//! let trial = log.begin::<u64, Offered>(&7)?;
-//! assert_eq!(trial.entry_count(), 1);
-//! log.end::<u64, Paid>(trial, &7);
-//! assert_eq!(log.entry_count(), 2);
-//! ```
 #![tactic(auto)]
 
 mod log;

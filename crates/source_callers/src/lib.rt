@@ -1,13 +1,16 @@
 //! Callers that list `identity_source` alone: what readers keep of what they were told, from public items.
 #![tactic(auto)]
 
-ghost use Rattle.std.specs.Prelude.{◌≡◌, ◌≤◌, IfOk, Some};
+ghost use Rattle.std.specs.Prelude.{◌≡◌, ◌≤◌, ◌∷◌, [], true, IfOk, Some};
 ghost use Rattle.identity_source.specs.History.{IsHistory, StartsWith};
-ghost use Rattle.identity_source.specs.declared.kept_reader.Look.TheVariants.{Looked};
+ghost use Rattle.identity_source.specs.declared.kept_reader.Look.TheVariants.{Looked, Missed};
+ghost use Rattle.identity_source.specs.declared.window.Missed.TheVariants.{NoGuard};
 ghost use Rattle.source_callers.specs.Told.{GivesLatest, Heeds};
 
 use identity_source::laws::states_are_counted_by_revision;
-use identity_source::{IdentityReader, IdentitySource, KeptReader, Receipt, UpdateError, Window};
+use identity_source::{
+    IdentityReader, IdentitySource, KeptReader, Missing, Pane, Receipt, UpdateError, Window,
+};
 use std::sync::Wait;
 
 /// Tells a reader of any receipt, and looks.
@@ -89,4 +92,16 @@ pub fn later_of(one: Receipt, other: Receipt) -> Receipt
     ensures other { StartsWith result.list other.list }
 {
     if one.covers(&other) { one } else { other }
+}
+
+/// Looks with a reader whose look 0 is to miss: it misses so, and the list stays.
+pub fn miss_first(reader: IdentityReader, failing: Vec<u64>) -> KeptReader<Missing<Pane>>
+    requires live { reader.sight.is_live ≡ true }
+    requires first { failing.items ≡ 0 ∷ [] }
+    ensures look { result.look ≡ Some (Missed NoGuard) }
+    ensures list { result.list ≡ reader.list }
+{
+    let mut reader = reader.with_misses(failing);
+    reader.current();
+    reader
 }

@@ -2,14 +2,18 @@
 //! JSON Web Key sets, kept by key id and by trust domain, and shared between threads. It ports a part of the crate
 //! `spiffe`, and is offered under the licence Apache-2.0. Callers mostly list `spiffe_core`, which passes these items on.
 //!
-//! ```text
-//! let domain = TrustDomain::new(alloc, "example.org")?;
-//! let bundle = JwtBundle::from_jwt_authorities(alloc, domain, br#"{"keys":[{"kid":"k1","kty":"EC"}]}"#)?;
-//! assert!(bundle.find_jwt_authority("k1").is_some());
-//!
-//! let mut bundles = JwtBundleSet::new(alloc);
-//! bundles.add_bundle(bundle)?;
-//! assert_eq!(bundles.len(), 1);
+//! ```rust
+//! /// The JWK that a trust domain publishes under this key ID.
+//! pub fn key_of(
+//!     alloc: Global,
+//!     bundle: &JwtBundle,
+//!     key_id: &str,
+//! ) -> Result<Option<Vec<u8>>, JwtBundleError> {
+//!     match bundle.find_jwt_authority(key_id) {
+//!         Some(authority) => Ok(Some(Vec::from_slice(alloc, authority.jwk_json())?)),
+//!         None => Ok(None),
+//!     }
+//! }
 //! ```
 #![tactic(auto)]
 

@@ -3,14 +3,11 @@
 //!
 //! It has no item of its own, and no library of this repository stands on it: each lists the crate whose items it uses.
 //!
-//! ```text
-//! let domain = TrustDomain::new(alloc, "example.org")?;
-//! let bundle = JwtBundle::from_jwt_authorities(alloc, domain, br#"{"keys":[{"kid":"k1","kty":"EC"}]}"#)?;
-//! assert!(bundle.find_jwt_authority("k1").is_some());
-//!
-//! let mut bundles = JwtBundleSet::new(alloc);
-//! bundles.add_bundle(bundle)?;
-//! assert_eq!(bundles.len(), 1);
+//! ```rust
+//! /// Whether the workload of this text is one of the trust domain.
+//! pub fn is_member(alloc: Global, id: &str, domain: &TrustDomain) -> Result<bool, SpiffeIdError> {
+//!     Ok(SpiffeId::new(alloc, id)?.is_member_of(domain))
+//! }
 //! ```
 #![tactic(auto)]
 

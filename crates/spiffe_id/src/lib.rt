@@ -2,11 +2,11 @@
 //! the answer names the first rule of the SPIFFE-ID standard that it breaks. It ports a part of the crate `spiffe`, and
 //! is offered under the licence Apache-2.0.
 //!
-//! ```text
-//! let id = SpiffeId::new(alloc, "spiffe://Example.org/backend")?;
-//! assert_eq!(id.trust_domain_name(), "example.org");
-//! assert_eq!(id.path(), "/backend");
-//! assert_eq!(SpiffeId::new(alloc, "spiffe://example.org/").err(), Some(SpiffeIdError::TrailingSlash));
+//! ```rust
+//! /// Whether the workload of this text is one of the trust domain.
+//! pub fn is_member(alloc: Global, id: &str, domain: &TrustDomain) -> Result<bool, SpiffeIdError> {
+//!     Ok(SpiffeId::new(alloc, id)?.is_member_of(domain))
+//! }
 //! ```
 #![tactic(auto)]
 

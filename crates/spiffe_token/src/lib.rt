@@ -1,12 +1,12 @@
 //! Tokens of the SPIFFE Workload API, JWT-SVIDs: a text becomes a [`JwtSvid`], or the answer names the
 //! first rule that it breaks. It ports a part of the crate `spiffe` and is offered under Apache-2.0 alone.
 //!
-//! ```text
-//! let svid = JwtSvid::from_workload_api_token(alloc, token)?;
-//! assert_eq!(svid.claims().sub(), "spiffe://example.org/a");
-//! assert_eq!(svid.alg(), JwtAlg::ES256);
-//! assert_eq!(svid.expiry(), 1_700_000_000);
-//! assert_eq!(JwtSvid::parse_insecure(alloc, "a.b"), Err(JwtSvidError::InvalidJwtFormat));
+//! ```rust
+//! /// The subject of a token, whose signature nobody has checked.
+//! pub fn subject(alloc: Global, token: &str) -> Result<String, JwtSvidError> {
+//!     let svid = JwtSvid::parse_insecure(alloc, token)?;
+//!     Ok(String::from_str(alloc, svid.claims().sub())?)
+//! }
 //! ```
 #![tactic(auto)]
 

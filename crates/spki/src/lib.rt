@@ -5,9 +5,11 @@
 //! The fingerprint of an Ed25519 key, and of no other:
 //!
 //! ```rust
-//! fn ed25519_fingerprint(alloc: Global, document: &[u8]) -> spki::Result<String> {
+//! /// The fingerprint of an Ed25519 key, and of no other.
+//! pub fn ed25519_fingerprint(alloc: Global, document: &[u8]) -> spki::Result<String> {
 //!     let key = SubjectPublicKeyInfoRef::from_der(document)?;
-//!     key.algorithm.assert_algorithm_oid(ObjectIdentifier::new("1.3.101.112")?)?;
+//!     key.algorithm
+//!         .assert_algorithm_oid(ObjectIdentifier::new("1.3.101.112")?)?;
 //!     key.fingerprint_base64(alloc)
 //! }
 //! ```

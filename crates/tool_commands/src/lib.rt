@@ -1,11 +1,11 @@
 //! The commands of `identity_tool` over any source and any sink: an update text is read to its end and answered by its
 //! report, or by the line of the first rule that it breaks.
 //!
-//! ```text
-//! let mut input = SureSource::new(b"MAowADAAgARnb25l");
-//! let mut output = SureSink::new(&mut room);
-//! assert_eq!(show(rt, alloc, 64, &mut input, &mut output), Status::Done);
-//! assert_eq!(output.written(), b"revision 1\nwithdrawn gone\n");
+//! ```rust
+//! /// The exit status of a report of the update that a source has.
+//! pub fn report_of<S: Source, K: Sink>(alloc: Global, input: &mut S, out: &mut K) -> u8 {
+//!     report(alloc, 64, input, out).number()
+//! }
 //! ```
 #![tactic(auto)]
 

@@ -1,9 +1,16 @@
 //! The program `identity_tool` as a library: its words, the command that they name over any source and any sink, and its edge over the standard streams.
 //!
-//! ```text
-//! // The words are `show` and `64`.
-//! let status = run(rt, alloc, &words, &mut input, &mut output);
-//! assert_eq!(status, Status::Done);
+//! ```rust
+//! /// Runs the words of `identity_tool` over any source and sink.
+//! pub fn command<R: Threads + Wait + Sync, S: Source, K: Sink>(
+//!     rt: &R,
+//!     alloc: Global,
+//!     words: &[String],
+//!     input: &mut S,
+//!     out: &mut K,
+//! ) -> bool {
+//!     tool_program::run(rt, alloc, words, input, out) == Status::Done
+//! }
 //! ```
 #![tactic(auto)]
 

@@ -1,10 +1,15 @@
 //! Scripts of requests to an identity source: a script is read request by request, and each request is answered before the next one is read.
 //!
-//! ```text
-//! let mut input = SureSource::new(b"update 16\nMAowADAAgARnb25l\nsvid\nend\n");
-//! let mut output = SureSink::new(&mut room);
-//! assert_eq!(session(rt, alloc, 64, &mut input, &mut output), Status::Done);
-//! assert_eq!(output.written(), b"accepted 1\nsvid 1 withdrawn gone\n");
+//! ```rust
+//! /// Answers a script request by request.
+//! pub fn answer<R: Wait, S: Source, K: Sink>(
+//!     rt: &R,
+//!     alloc: Global,
+//!     input: &mut S,
+//!     out: &mut K,
+//! ) -> Status {
+//!     session(rt, alloc, 64, input, out)
+//! }
 //! ```
 #![tactic(auto)]
 

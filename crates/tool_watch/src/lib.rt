@@ -1,10 +1,15 @@
 //! A script that is answered by several threads: the updates are applied by one, and each worker answers all queries through its own reader of the one source.
 //!
-//! ```text
-//! let mut input = SureSource::new(b"svid\nend\n");
-//! let mut output = SureSink::new(&mut room);
-//! assert_eq!(watch(rt, alloc, 64, 2, &OpenGate, &mut input, &mut output), Status::Done);
-//! assert_eq!(output.written(), b"worker 0\nsvid 0 none\nworker 1\nsvid 0 none\n");
+//! ```rust
+//! /// Answers a script by two workers in threads of their own.
+//! pub fn answer_by_two<R: Threads + Wait + Sync, S: Source, K: Sink>(
+//!     rt: &R,
+//!     alloc: Global,
+//!     input: &mut S,
+//!     out: &mut K,
+//! ) -> Status {
+//!     watch(rt, alloc, 64, 2, &OpenGate, input, out)
+//! }
 //! ```
 #![tactic(auto)]
 

@@ -2,20 +2,15 @@
 //! where identities are withdrawn. It is read exactly, with the place at which a document before other bytes ends, and
 //! written.
 //!
-//! ```text
-//! let fields = read_update(alloc, b"\x30\x0a\x30\x00\x30\x00\x80\x04gone")?;
-//! assert!(fields.entries.is_empty());
-//! assert_eq!(fields.reason, Some(Utf8Ref::new("gone")?));
+//! ```rust
+//! /// The numbers of one byte that stand one behind the other.
+//! pub fn numbers_of(alloc: Global, content: &[u8]) -> der_small::Result<Vec<u8>> {
+//!     decode_all(alloc, content)
+//! }
 //! ```
 //!
 //! Its lists are values of one type (X.690, 8.10), whatever the type is. A content is read by `decode_all`, and the
-//! values of a slice are written by `SequenceOf`:
-//!
-//! ```text
-//! let numbers: Vec<u8> = decode_all(alloc, &[2, 1, 7, 2, 1, 9])?;
-//! let encoding = SequenceOf(numbers.as_slice()).to_der(alloc)?;
-//! assert_eq!(encoding.as_slice(), [0x30, 6, 2, 1, 7, 2, 1, 9]);
-//! ```
+//! values of a slice are written by `SequenceOf`.
 #![tactic(auto)]
 
 mod document;

@@ -30,7 +30,8 @@ impl<W: Window> KeptReader<W> {
     }
 
     /// One whole state, the last of the reader's list, never earlier than any that this reader gave or was
-    /// told of. It never waits and is never refused; `look` tells how it came to its answer.
+    /// told of. It never waits and is never refused; `look` tells how it came to its answer. After a miss it
+    /// is the state that the reader kept.
     pub fn current(&mut self) -> &Snapshot
         ensures* { sem 𝓛 (follows_so (the_row W.row W.Window) (the_row W.row W.Window) self.entry.ghost_name none (λ _ _. ⊤)
             (λ n. Renewed self.old n × EndsWith n.list result.now)) }
@@ -91,11 +92,12 @@ impl<W: Window> KeptReader<W> {
 }
 
 impl KeptReader<Pane> {
-    /// The same reader over a window that misses at the looks of the given numbers, counted from 0. It is for tests.
+    /// The same reader over a window that misses with `NoGuard` at the looks of the given numbers, counted from 0 and
+    /// from this call on. It is for tests.
     pub fn with_misses(self, failing: Vec<u64>) -> KeptReader<Missing<Pane>>
         ensures list { result.list ≡ self.list }
         ensures look { result.look ≡ self.look }
-        ensures sight { result.sight ≡ with_misses self.sight 0 }
+        ensures sight { result.sight ≡ with_misses self.sight failing.items 0 0 }
     {
         let Self {
             window,

@@ -53,6 +53,9 @@ impl IdentitySource {
     /// Appends the state that the text lawfully writes in lines of `width` characters, and gives a receipt of the list
     /// with it. A refused call publishes nothing.
     ///
+    /// It errs with `RevisionsUsedUp` where the last revision is 2^64 - 1, whatever the text is, else with the first
+    /// rule that the text breaks, and with `OutOfMemory` where memory or a share of the state is refused.
+    ///
     /// It may wait for readers that stand inside `current`. Whoever is told of the receipt sees the state; other readers see it soon.
     pub fn apply<R: Wait>(
         &mut self,
@@ -77,7 +80,7 @@ impl IdentitySource {
         Ok(receipt)
     }
 
-    /// A receipt of the whole list.
+    /// A receipt of the whole list. It errs with `OutOfMemory` alone, where a share of the last state is refused.
     pub fn receipt(&mut self) -> Result<Receipt, SourceError>
         ensures whole { IfOk result (λ receipt. receipt ≡ self.old) }
         ensures same { self.new ≡ self.old }
@@ -104,7 +107,7 @@ impl IdentitySource {
 
     /// Ends the source and publishes nothing. It may wait for readers.
     ///
-    /// Readers, receipts and snapshots stay as they are. A reader then answers what it keeps, as its `look` tells.
+    /// Receipts, snapshots and what readers keep stay as they are. A reader then answers what it keeps, and its `look` says `NoGuard`.
     pub fn close<R: Wait>(self, rt: &R) {
         let Self {
             writer,
