@@ -1,5 +1,6 @@
 -- What a reader's calls do, over any window.
-use Rattle.std.proofs.Common.{◌≡◌, ℕ, ◌+◌, ◌-◌, ◌<◌, ◌≤◌, Bool, true, false, cond, nat_le, Option, Some, None, Result, Ok, Err, List, ◌∷◌, length, take, length-append, refl}
+use Rattle.std.proofs.Common.{◌≡◌, ℕ, ◌+◌, ◌-◌, ◌<◌, ◌≤◌, Bool, true, false, cond, nat_le, Option, Some, None, Result, Ok, Err}
+use Rattle.std.proofs.Common.{List, ◌∷◌, length, take, length-append, refl}
 use Rattle.std.proofs.Common.{sym, ap, ◌∙◌, subst, ⊎_elim, le_refl, arith}
 use Rattle.std.proofs.lemmas.List.{take_all, length-take}
 use Rattle.std.proofs.lemmas.Bool.{le-leb}
@@ -292,7 +293,15 @@ along old r s list e t = subst (λ z. Told z s list) e t
 
 relabelled_same : (s : Sight) (numbers : List ℕ) (k n : ℕ) (x : PlainState) (told : Option NamedList) → IsReader s x told
     → IsReader (with_misses s numbers k n) x told
-relabelled_same s numbers k n x None r = record { seen = r.seen; first = r.first; history = r.history; own = r.own; last = r.last; within = r.within; known = r.known }
+relabelled_same s numbers k n x None r = record {
+  seen = r.seen;
+  first = r.first;
+  history = r.history;
+  own = r.own;
+  last = r.last;
+  within = r.within;
+  known = r.known;
+}
 relabelled_same s numbers k n x (Some h) r = record {
   seen = r.seen;
   first = r.first;
