@@ -60,7 +60,7 @@ impl Claims {
         self.exp
     }
 
-    /// A copy in memory of its own.
+    /// A copy in memory of its own. `OutOfMemory` alone refuses it.
     pub fn try_clone(&self, alloc: Global) -> Result<Self, JwtSvidError>
         ensures ok { IfOk result (λ c. c ≡ self.now) }
         ensures err { IfErr result (λ e. e ≡ JwtSvidError.OutOfMemory) }

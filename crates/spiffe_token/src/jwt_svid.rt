@@ -55,7 +55,7 @@ impl Model for JwtSvid {
 }
 
 impl JwtSvid {
-    /// Reads a token that came from a Workload API, which has verified it.
+    /// Reads a token that came from a Workload API, which has verified it, or answers the first rule that it breaks, or `OutOfMemory`.
     pub fn from_workload_api_token(alloc: Global, token: &str) -> Result<Self, JwtSvidError>
         ensures ok { IfOk result (λ s. Answers token.now (Ok s)) }
         ensures err { IfErr result (λ e. Answers token.now (Err e) ⊎ (e ≡ JwtSvidError.OutOfMemory)) }
@@ -63,7 +63,8 @@ impl JwtSvid {
         JwtSvid::parse_insecure(alloc, token)
     }
 
-    /// Reads a token of which nobody has verified the signature: nothing that it says is to be trusted.
+    /// Reads a token of which nobody has verified the signature: nothing that it says is to be trusted. It refuses as `from_workload_api_token`
+    /// does.
     pub fn parse_insecure(alloc: Global, token: &str) -> Result<Self, JwtSvidError>
         ensures ok { IfOk result (λ s. Answers token.now (Ok s)) }
         ensures err { IfErr result (λ e. Answers token.now (Err e) ⊎ (e ≡ JwtSvidError.OutOfMemory)) }
@@ -76,7 +77,7 @@ impl JwtSvid {
     }
 
     /// Reads a token from the JSON of its header and its claims, for a caller who has decoded or changed these. The
-    /// token's own text is kept and not looked at.
+    /// token's own text is kept and not looked at. It answers the first rule that the header and then the claims break, or `OutOfMemory`.
     #[tactic(auto, unfolding(crate::specs::JwtSvid::svid_of))]
     pub fn from_parts(
         alloc: Global,
@@ -190,7 +191,7 @@ impl JwtSvid {
         }
     }
 
-    /// A copy in memory of its own.
+    /// A copy in memory of its own. `OutOfMemory` alone refuses it.
     pub fn try_clone(&self, alloc: Global) -> Result<Self, JwtSvidError>
         ensures ok { IfOk result (λ s. s ≡ self.now) }
         ensures err { IfErr result (λ e. e ≡ JwtSvidError.OutOfMemory) }
