@@ -34,7 +34,8 @@ impl Metadata {
         }
     }
 
-    /// Sets the value at a key, in place of what was there.
+    /// Sets the value at a key, in place of what was there: `InvalidKey`, then `InvalidValue`, where a character isn't one that gRPC takes, or
+    /// `OutOfMemory`. After a refusal the metadata is as it was.
     pub fn insert(&mut self, key: &str, value: &str) -> Result<(), MetadataError>
         ensures ok { OnOk result (entry_check key.now value.now ≡ Ok tt) }
         ensures set { OnOk result (self.new ≡ with_entry self.old key.now value.now) }

@@ -47,7 +47,7 @@ impl<F: Fn(&mut Metadata) -> Result<(), Status>> SecurityHeader<F> {
         SecurityHeader { extra: Some(extra) }
     }
 
-    /// The metadata of a call after the function, with the header set.
+    /// The metadata of a call after the function, with the header set: `Refused` with the function's status where it refuses, or `OutOfMemory`.
     pub fn call(&mut self, metadata: Metadata) -> Result<Metadata, CallError>
         requires { IfSome self.old F.IsAlwaysCallable }
         ensures ends { (answer : Result (Unit {0}) Status) × (left : Entries)

@@ -16,7 +16,7 @@ use std::alloc::{AllocError, Global};
 
 impl BundleDocument {
     /// The document that a trust domain publishes of a bundle: its authorities as keys for tokens, ascending by key
-    /// ID. A JWK nested more than 125 deep makes a document that no reader takes.
+    /// ID. A JWK nested more than 125 deep makes a document that no reader takes. `OutOfMemory` alone refuses it.
     pub fn from_bundle(
         alloc: Global,
         bundle: &JwtBundle,

@@ -30,7 +30,7 @@ impl BundleFeed {
     }
 
     /// Keeps the document, unless it is older than the one that is kept: then the document is dropped. One without a
-    /// sequence number is always kept.
+    /// sequence number is always kept. `Older` with both sequence numbers tells that it was dropped.
     pub fn offer(&mut self, document: BundleDocument) -> Result<(), FeedError>
         ensures answer { result ≡ answer_beside self.old document }
         ensures kept { self.new ≡ kept_after self.old document result }

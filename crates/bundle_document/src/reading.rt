@@ -18,7 +18,7 @@ use std::alloc::{AllocError, Global};
 
 impl BundleDocument {
     /// Reads a document. Keys of other uses are counted and left out, and no key is judged beyond its use and its
-    /// key ID.
+    /// key ID. `Deserialize`, `Sequence`, `RefreshHint` or `MissingKeyId` for the first rule that it breaks, `OutOfMemory`.
     #[tactic(auto, unfolding(crate::specs::Reading::document_of))]
     pub fn read(alloc: Global, json: &[u8]) -> Result<Self, DocumentError>
         ensures ok { IfOk result (λ d. document_of json.now ≡ Ok d) }

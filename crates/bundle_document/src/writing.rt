@@ -16,7 +16,7 @@ use std::alloc::{AllocError, Global};
 
 impl BundleDocument {
     /// The document as JSON without blanks: its keys for tokens and the numbers that it has. Keys of other uses
-    /// weren't kept, so they aren't written.
+    /// weren't kept, so they aren't written. `OutOfMemory` alone refuses it.
     pub fn to_json(&self, alloc: Global) -> Result<Vec<u8>, DocumentError>
         ensures json { IfOk result (λ v. v.items ≡ document_text self.now) }
         ensures reads { IfOk result (λ v. IsReadable self.now
@@ -30,7 +30,7 @@ impl BundleDocument {
         Ok(json)
     }
 
-    /// The bundle of an update: its key set, for this trust domain.
+    /// The bundle of an update: its key set, for this trust domain. `OutOfMemory` alone refuses it.
     pub fn to_bundle_parts(
         &self,
         alloc: Global,

@@ -6,13 +6,14 @@ use Rattle.std.proofs.lemmas.Bool.Decides.{nat_tests}
 use Rattle.der_core.specs.Der.{IsValue}
 use Rattle.der_core.specs.declared.error.Error.{Error as DerError}
 use Rattle.der_core.specs.declared.error.Error.TheVariants as der
+use Rattle.der_small.specs.KeyFiles.{ReadsKeyFile}
 use Rattle.pkcs8.specs.Answers.{ReadAnswer as PrivateAnswer}
-use Rattle.pkcs8.specs.KeyFiles.{ReadsKeyFile as ReadsPrivate}
+use Rattle.pkcs8.specs.Error.{kind_of as private_kind}
 use Rattle.pkcs8.specs.PlainPrivateKey.{PlainPrivateKey, ReadsPrivateKey}
 use Rattle.pkcs8.specs.declared.error.Error.{Error as PrivateError}
 use Rattle.pkcs8.specs.declared.error.Error.TheVariants as pkcs8
 use Rattle.spki.specs.Answers.{ReadAnswer as PublicAnswer}
-use Rattle.spki.specs.KeyFiles.{ReadsKeyFile as ReadsPublic}
+use Rattle.spki.specs.Error.{kind_of as public_kind}
 use Rattle.spki.specs.PlainPublicKey.{PlainPublicKey, ReadsPublicKey}
 use Rattle.spki.specs.declared.error.Error.{Error as PublicError}
 use Rattle.spki.specs.declared.error.Error.TheVariants as spki
@@ -30,7 +31,7 @@ no_other None h = h
 no_other (Some bytes) h = elim (h.1) as (λ _. ⊥) [ inl none ↦ none | inr p ↦ p.1 ]
 
 module _ {V : Type 0} (plain : V → PlainPrivateKey) (n : ℕ) (found : Option (List ℕ)) where
-  pub private_refused : (e : PrivateError) → ReadsPrivate plain (PrivateAnswer ReadsPrivateKey) found (Err e)
+  pub private_refused : (e : PrivateError) → ReadsKeyFile private_kind plain (PrivateAnswer ReadsPrivateKey) found (Err e)
       → Gives plain (OrFault (RefusedAs (broken.KeyFile n) (ReadsPrivateKeyFile found))) (Err (private_refusal n e))
   private_refused (pkcs8.Asn1 der.FileMissing) h = inr (inr (Missing, h, refl))
   private_refused (pkcs8.Asn1 der.FileTooLong) h = inr (inr (TooLong, h, refl))
@@ -48,7 +49,7 @@ module _ {V : Type 0} (plain : V → PlainPrivateKey) (n : ℕ) (found : Option 
   private_refused (pkcs8.PublicKey e) h = absurd (no_other found h)
 
 module _ {V : Type 0} (plain : V → PlainPublicKey) (n : ℕ) (found : Option (List ℕ)) where
-  pub public_refused : (e : PublicError) → ReadsPublic plain (PublicAnswer ReadsPublicKey) found (Err e)
+  pub public_refused : (e : PublicError) → ReadsKeyFile public_kind plain (PublicAnswer ReadsPublicKey) found (Err e)
       → Gives plain (OrFault (RefusedAs (broken.PublicFile n) (ReadsPublicKeyFile found))) (Err (public_refusal n e))
   public_refused (spki.Asn1 der.FileMissing) h = inr (inr (Missing, h, refl))
   public_refused (spki.Asn1 der.FileTooLong) h = inr (inr (TooLong, h, refl))

@@ -4,10 +4,11 @@ use Rattle.der_core.specs.Der.{IsValue}
 use Rattle.der_core.specs.SequenceLaws.{ReadsOne}
 use Rattle.der_core.specs.declared.error.Error.{Error as DerError}
 use Rattle.der_core.specs.declared.error.Error.TheVariants as der
+use Rattle.der_small.specs.KeyFiles.{NoDocument}
 use Rattle.der_small.specs.OneValue.{IsOneValue}
 use Rattle.identity_update.specs.Verdict.{map_refusal}
 use Rattle.pkcs8.specs.Answers.{ReadAnswer}
-use Rattle.pkcs8.specs.KeyFiles.{DocumentAnswer, NoDocument}
+use Rattle.pkcs8.specs.Error.{kind_of}
 use Rattle.pkcs8.specs.PlainPrivateKey.{PlainPrivateKey, ReadsPrivateKey}
 use Rattle.pkcs8.specs.ReadLaws.{private_key_one_answer, read_one_answer}
 use Rattle.pkcs8.specs.declared.error.Error.{Error}
@@ -28,13 +29,14 @@ abbrev seen : Read → Seen
 seen r = map_refusal (λ e. error.Asn1 (der_error e)) r
 
 abbrev Answers : List ℕ → Seen → Type 0
-Answers bytes r = DocumentAnswer (λ (key : PlainPrivateKey). key) (ReadAnswer ReadsPrivateKey) bytes r
+Answers bytes (Ok key) = IsValue bytes × ReadAnswer ReadsPrivateKey bytes (Ok key)
+Answers bytes (Err e) = NoDocument bytes (kind_of e) ⊎ (IsValue bytes × ReadAnswer ReadsPrivateKey bytes (Err e))
 
 one_document : ReadsOne IsOneValue
 one_document = record { value = λ b v h. h.one; one = λ b v w h k. h.is ∙ sym k.is }
 
 -- bytes that are no document, as reading a document answers
-no_document : (bytes : List ℕ) (e : Error) → NoDocument bytes e → ReadAnswer IsOneValue bytes (Err e)
+no_document : (bytes : List ℕ) (e : Error) → NoDocument bytes (kind_of e) → ReadAnswer IsOneValue bytes (Err e)
 no_document bytes (error.Asn1 der.Malformed) h = h
 no_document bytes (error.Asn1 (der.TrailingData decoded remaining)) h = h
 no_document bytes _ h = absurd h
@@ -42,7 +44,7 @@ no_document bytes _ h = absurd h
 same_document : (bytes : List ℕ) → One (ReadAnswer IsOneValue bytes)
 same_document bytes = read_one_answer IsOneValue one_document bytes
 
-no_value : (bytes : List ℕ) (e : Error) → NoDocument bytes e → IsValue bytes → ⊥
+no_value : (bytes : List ℕ) (e : Error) → NoDocument bytes (kind_of e) → IsValue bytes → ⊥
 no_value bytes e h value = apart (Ok bytes) (Err e) (same_document bytes (Ok bytes) (Err e) (record { is = refl; one = value }) (no_document bytes e h)) tt
 
 same_answer : (bytes : List ℕ) → One (Answers bytes)

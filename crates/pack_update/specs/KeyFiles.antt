@@ -2,14 +2,15 @@
 use Rattle.std.specs.Prelude.{ℕ, nat_lt, List, length, Option, Some, None, Result, Ok, Err, if◌then◌else◌}
 use Rattle.der_core.specs.declared.error.Error.{Error as DerError}
 use Rattle.der_core.specs.declared.error.Error.TheVariants as der
+use Rattle.der_small.specs.KeyFiles.{ReadsKeyFile}
 use Rattle.identity_update.specs.Verdict.{map_refusal}
 use Rattle.pkcs8.specs.Answers.{ReadAnswer as PrivateAnswer}
-use Rattle.pkcs8.specs.KeyFiles.{ReadsKeyFile as ReadsPrivate}
+use Rattle.pkcs8.specs.Error.{kind_of as private_kind}
 use Rattle.pkcs8.specs.PlainPrivateKey.{PlainPrivateKey, ReadsPrivateKey}
 use Rattle.pkcs8.specs.declared.error.Error.{Error as PrivateError}
 use Rattle.pkcs8.specs.declared.error.Error.TheVariants as pkcs8
 use Rattle.spki.specs.Answers.{ReadAnswer as PublicAnswer}
-use Rattle.spki.specs.KeyFiles.{ReadsKeyFile as ReadsPublic}
+use Rattle.spki.specs.Error.{kind_of as public_kind}
 use Rattle.spki.specs.PlainPublicKey.{PlainPublicKey, ReadsPublicKey}
 use Rattle.spki.specs.declared.error.Error.{Error as PublicError}
 use Rattle.spki.specs.declared.error.Error.TheVariants as spki
@@ -28,11 +29,11 @@ whole_file missing too_long (Some bytes) = if nat_lt 16777216 (length bytes) the
 
 -- what reading a private key from the file that stands at a path answers: the file is read as a document first
 abbrev pub ReadsPrivateKeyFile : Option (List ℕ) → Result PlainPrivateKey FileError → Type 0
-ReadsPrivateKeyFile found r = ReadsPrivate (λ key. key) (PrivateAnswer ReadsPrivateKey) found (map_refusal (λ e. pkcs8.Asn1 (der_error e)) r)
+ReadsPrivateKeyFile found r = ReadsKeyFile private_kind (λ key. key) (PrivateAnswer ReadsPrivateKey) found (map_refusal (λ e. pkcs8.Asn1 (der_error e)) r)
 
 -- the same of a public key
 abbrev pub ReadsPublicKeyFile : Option (List ℕ) → Result PlainPublicKey FileError → Type 0
-ReadsPublicKeyFile found r = ReadsPublic (λ key. key) (PublicAnswer ReadsPublicKey) found (map_refusal (λ e. spki.Asn1 (der_error e)) r)
+ReadsPublicKeyFile found r = ReadsKeyFile public_kind (λ key. key) (PublicAnswer ReadsPublicKey) found (map_refusal (λ e. spki.Asn1 (der_error e)) r)
 
 -- the refusal of an entry's file
 abbrev pub file_refusal : KeyFile → FileError → PackError

@@ -49,7 +49,7 @@ fn keys_text(cause: &JwtBundleError) -> &'static str
     }
 }
 
-/// The line of a refusal. Want of memory has none, and takes the way of one.
+/// The line of a refusal. Want of memory has none, and takes the way of one: `AllocError`, as where there is no memory for the line.
 pub fn refusal_text(alloc: Global, error: &UpdateError) -> Result<String, AllocError>
     ensures line { IfOk result (λ text. string_bytes text ≡ refusal_line error.now) }
     ensures rule { IfOk result (λ _. error.now ≢ UpdateError.OutOfMemory) }

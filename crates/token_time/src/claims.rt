@@ -73,7 +73,7 @@ fn without_times(alloc: Global, text: &[u8], members: &[Member]) -> Result<Vec<u
 
 /// The claims with `0` for each value of a member `nbf` at their top that begins with `-` or a digit.
 ///
-/// A token's `nbf` may be a number that isn't whole (RFC 7519, section 2), which no other member may be.
+/// A token's `nbf` may be a number that isn't whole (RFC 7519, section 2), which no other member may be. `OutOfMemory` alone refuses it.
 #[tactic(auto, unfolding(crate::specs::Quiet::quiet))]
 pub fn quiet(alloc: Global, claims: &[u8]) -> Result<Vec<u8>, JwtSvidError>
     ensures ok { IfOk result (λ v. v.items ≡ quiet claims.now) }
@@ -112,7 +112,7 @@ fn not_before_in(text: &[u8], members: &[Member]) -> Option<Option<i128>>
 }
 
 /// The time `nbf` of claims in nanoseconds, if they have one. `None` in its place tells that `nbf` stands twice,
-/// or that its value isn't a time as [`nanoseconds`] takes it.
+/// or that its value isn't a time as [`nanoseconds`] takes it. `OutOfMemory` alone refuses it.
 #[tactic(auto, unfolding(crate::specs::Quiet::not_before_of))]
 pub fn not_before(alloc: Global, claims: &[u8]) -> Result<Option<Option<i128>>, JwtSvidError>
     ensures ok { IfOk result (λ o. o ≡ not_before_of claims.now) }
