@@ -123,8 +123,8 @@ KAMZIRDA_NONNULL uint32_t kamzirda_base64_encode(uint32_t alphabet, const uint8_
 
 /* Decodes a text to the front of some bytes, if it is the canonical encoding of them (RFC 4648 section 3.5): no other
  * character, no blank, the right padding, and 0 in the bits that are left over. Statuses: DONE, REFUSED, NO_CHOICE,
- * NO_ROOM. That a padded text has whole blocks is tried before the room, the rest after it. With REFUSED the bytes that
- * the text's length tells may hold anything. With each status but DONE *len is as it was. */
+ * NO_ROOM. That a padded text has whole blocks is tried before the room, the rest after it. With each status but DONE
+ * *len is as it was, and the first bytes of the output, as many as the text's length tells, may hold anything. */
 KAMZIRDA_NONNULL uint32_t kamzirda_base64_decode(uint32_t alphabet, const uint8_t *text, size_t text_len, uint8_t *KAMZIRDA_ALONE bytes,
     size_t bytes_room, size_t *KAMZIRDA_ALONE len);
 
