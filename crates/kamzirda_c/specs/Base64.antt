@@ -1,6 +1,7 @@
 -- The eight alphabets by the numbers that a caller names them by, padded or not.
 use Rattle.std.specs.Prelude.{ℕ, ◌==◌, ◌||◌, ◌*◌, ◌^◌, Bool, List, length, nat_le, nat_lt, if◌then◌else◌}
 use Rattle.base64_alphabet.specs.Encoding.{encoding_of}
+use Rattle.base64_alphabet.specs.Form.{Form}
 use Rattle.base64_alphabet.specs.Group.{End, High, Low}
 use Rattle.base64_alphabet.specs.Standard.{standard}
 use Rattle.base64_alphabets.specs.Bcrypt.{bcrypt}
@@ -25,13 +26,16 @@ table_in n =
 abbrev pub is_padded_in : ℕ → Bool
 is_padded_in n = n == 0 || n == 2
 
+abbrev pub form_in : ℕ → Form
+form_in n = record { end = end_in n; table = table_in n; padded = is_padded_in n }
+
 -- the encoding of some bytes in the alphabet of this number
 abbrev pub encoding_in : ℕ → List ℕ → List ℕ
-encoding_in n bytes = encoding_of (end_in n) (table_in n) (is_padded_in n) bytes
+encoding_in n bytes = encoding_of (form_in n) bytes
 
 -- why a text in the alphabet of this number isn't decoded into so much room
 abbrev pub IsDecodeErrorIn : ℕ → List ℕ → ℕ → Error → Type 0
-IsDecodeErrorIn n text room e = IsDecodeError (end_in n) (table_in n) (is_padded_in n) text room e
+IsDecodeErrorIn n text room e = IsDecodeError (form_in n) text room e
 
 -- how many bytes a text's length, without its padding, tells
 abbrev pub told_len : ℕ → List ℕ → ℕ
