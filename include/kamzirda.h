@@ -1,4 +1,4 @@
-/* Kamzirda for C: Base64 texts, public and private keys, SPIFFE IDs, and updates.
+/* Kamzirda for C: Base64 texts, public keys, SPIFFE IDs, and updates with their identities.
  *
  * Behind each function stands a proof that it does what is written here, for every input that keeps the rules below.
  *
