@@ -21,11 +21,11 @@ pub record Tells (a b : Sight) (result : Result PlainState Missed_why) : Type 0 
   pub planned : will_miss a ≡ true → result ≡ Err NoGuard
   pub passed : will_miss a ≡ false → result ≡ Err NoGuard → MissedWithin a.plan b.plan
 
-why_of : Result PlainState Missed_why → Missed_why
+abbrev why_of : Result PlainState Missed_why → Missed_why
 why_of (Ok x) = NoPlace
 why_of (Err m) = m
 
-look_why : Option Look → Missed_why
+abbrev look_why : Option Look → Missed_why
 look_why (Some (Missed m)) = m
 look_why other = NoPlace
 
