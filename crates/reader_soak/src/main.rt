@@ -76,7 +76,7 @@ fn apply_all<R: Wait>(rt: &R, source: &mut IdentitySource, texts: &str) -> u64 {
     applied
 }
 
-// What all readers saw while the updates of these texts were applied, and how many were accepted.
+// How many of these texts were accepted, and what all readers saw meanwhile; none where there can't be so many readers.
 fn soak<W: Threads + Wait + Sync>(
     wait: &W,
     alloc: Global,
@@ -84,7 +84,10 @@ fn soak<W: Threads + Wait + Sync>(
     compared: u64,
     looks: u64,
     texts: &str,
-) -> Result<(u64, Seen)> {
+) -> Result<Option<(u64, Seen)>> {
+    if readers < 1 || 64 < readers {
+        return Ok(None);
+    }
     let (mut source, readers) = IdentitySource::open(wait, alloc, 0, readers)?;
     let (applied, seen) = thread::join(
         wait,
@@ -102,7 +105,7 @@ fn soak<W: Threads + Wait + Sync>(
         all.earlier = all.earlier.wrapping_add(seen.earlier);
         all.mixed = all.mixed.wrapping_add(seen.mixed);
     }
-    Ok((applied, all))
+    Ok(Some((applied, all)))
 }
 
 // How many readers look, and how often.
@@ -117,18 +120,30 @@ fn numbers(words: &[String]) -> Option<(u64, u64, u64)> {
     }
 }
 
-fn main(rt: HostRuntime) -> Result<ExitCode> {
-    let Some((readers, compared, looks)) = numbers(&words_of(&rt)?) else {
-        eprintln!(rt; "usage: reader_soak READERS COMPARED LOOKS < UPDATES")?;
-        return Ok(ExitCode::from(2));
+// Prints what was seen; `false` where the words aren't three numbers, or there can't be so many readers.
+fn run<W: Threads + Wait + Sync>(rt: &HostRuntime, wait: &W) -> Result<bool> {
+    let Some((readers, compared, looks)) = numbers(&words_of(rt)?) else {
+        return Ok(false);
     };
     let mut input = String::new(rt.alloc());
     rt.reader().read_to_string(&mut input)?;
-    let (applied, seen) = soak(&rt, rt.alloc(), readers as usize, compared, looks, &input)?;
-    println!(rt;
-        "applied {applied}\nearlier {}\nmixed {}",
-        seen.earlier, seen.mixed
-    )?;
-    eprintln!(rt; "changes {}", seen.changes)?;
-    Ok(ExitCode::from(0))
+    match soak(wait, rt.alloc(), readers as usize, compared, looks, &input)? {
+        Some((applied, seen)) => {
+            println!(rt;
+                "applied {applied}\nearlier {}\nmixed {}",
+                seen.earlier, seen.mixed
+            )?;
+            eprintln!(rt; "changes {}", seen.changes)?;
+            Ok(true)
+        }
+        None => Ok(false),
+    }
+}
+
+fn main(rt: HostRuntime) -> Result<ExitCode> {
+    if run(&rt, &rt)? {
+        return Ok(ExitCode::from(0));
+    }
+    eprintln!(rt; "usage: reader_soak READERS COMPARED LOOKS < UPDATES, with 1 to 64 readers")?;
+    Ok(ExitCode::from(2))
 }
