@@ -1,18 +1,16 @@
 //! The identity source.
-use identity_source::{IdentityReader, IdentitySource, UpdateError};
+use identity_source::{IdentitySource, UpdateError};
 use std::sync::Wait;
 
 // cut: rotate
-/// Applies an update, tells a reader of it, and gives the revision of the state that the reader then has. `apply` may
-/// wait for readers; the reader doesn't wait.
+/// Applies an update, and gives the revision of its state; a refused text publishes nothing. `apply` may wait for readers,
+/// who never wait: `reader.told(receipt)` makes sure that a reader's next state isn't earlier.
 pub fn rotate<R: Wait>(
     rt: &R,
     source: &mut IdentitySource,
-    reader: &mut IdentityReader,
     text: &[u8],
 ) -> Result<u64, UpdateError> {
     let receipt = source.apply(rt, text, 64)?;
-    reader.told(receipt);
-    Ok(reader.current().revision())
+    Ok(receipt.revision())
 }
 // end

@@ -120,10 +120,7 @@ fn updates_and_states(rt: HostRuntime) {
     );
     let (mut source, mut readers) = good(&rt, IdentitySource::open(&rt, rt.alloc(), 0, 1));
     let mut reader = readers.pop().unwrap();
-    assert_eq!(rt;
-        rotate(&rt, &mut source, &mut reader, text.as_bytes()),
-        Ok(1)
-    );
+    assert_eq!(rt; rotate(&rt, &mut source, text.as_bytes()), Ok(1));
     assert!(rt; !let_in(rt.alloc(), &mut reader, "a.b", &[], 0, &NoAlgorithms));
     source.close(&rt);
 }
