@@ -12,8 +12,6 @@ pub mod keys;
 pub mod programs;
 pub mod source;
 pub mod streams;
-#[cfg(test)]
-mod tests;
 pub mod tokens;
 pub mod updates;
 pub mod values;
